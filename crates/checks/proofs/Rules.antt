@@ -1,0 +1,63 @@
+-- What `search` is handed where a definition goes by tests and by an order of checks.
+-- Assumes nothing.
+use mathlib.Core.Path.{_≡_, refl, sym, _∙_, ap}
+use mathlib.Core.Bool.{Bool, true, false, not, _&&_}
+use mathlib.Core.List.{List, [], _∷_}
+use Prim.Native.Nat.{ℕ}
+use native.Mathlib.Omega.{arith}
+use borrow.Author.Needs.{needs}
+use borrow.Author.Tests.{lt-ltb, le-ltb, le-leb, lt-leb, eq-eqb, ne-eqb}
+use Rattle.checks.specs.Checks.{every, stop-if}
+
+-- a definition by `pick`, `&&` and `||` over comparisons
+pub ruleset tests = (needs, lt-ltb, le-ltb, le-leb, lt-leb, eq-eqb, ne-eqb)
+
+-- a test from its negation
+pub not-yes : (t : Bool) → t ≡ false → not t ≡ true
+not-yes t h = rw h
+
+pub not-no : (t : Bool) → t ≡ true → not t ≡ false
+not-no t h = rw h
+
+-- two tests that both hold
+pub both-true : (s t : Bool) → (s && t) ≡ true → (s ≡ true) × (t ≡ true)
+both-true true t e = (refl, e)
+both-true false t e = let z : _≡_ {A = ℕ} 0 1 = cc in absurd (omega arith)
+
+-- several tests that all hold, one by one
+abbrev pub AllTrue : List Bool → Type 0
+AllTrue [] = Unit {0}
+AllTrue (t ∷ ts) = (t ≡ true) × AllTrue ts
+
+pub all-true : (ts : List Bool) → every ts ≡ true → AllTrue ts
+all-true [] e = tt
+all-true (t ∷ []) e = (e, tt)
+all-true (t ∷ u ∷ us) e = let p = both-true t (every (u ∷ us)) e in (p .0, all-true (u ∷ us) (p .1))
+
+-- one line of an order of checks: it stops, or the rest decides
+module _ (R : Type 0) (e rest x : R) where
+  pub line-stops : (t : Bool) → t ≡ true → x ≡ e → x ≡ stop-if t e rest
+  unfolding stop-if
+  line-stops t h k = rw h k
+
+  pub line-passes : (t : Bool) → t ≡ false → x ≡ rest → x ≡ stop-if t e rest
+  unfolding stop-if
+  line-passes t h k = rw h k
+
+  -- the test was a call's answer
+  pub line-stops-flag : (r t : Bool) → r ≡ t → r ≡ true → x ≡ e → x ≡ stop-if t e rest
+  line-stops-flag r t p q k = line-stops t (sym p ∙ q) k
+
+  pub line-passes-flag : (r t : Bool) → r ≡ t → r ≡ false → x ≡ rest → x ≡ stop-if t e rest
+  line-passes-flag r t p q k = line-passes t (sym p ∙ q) k
+
+  -- the test was the negation of a call's answer
+  pub line-stops-unflag : (r t : Bool) → r ≡ t → not r ≡ true → x ≡ e → x ≡ stop-if (not t) e rest
+  line-stops-unflag r t p q k = line-stops (not t) (ap not (sym p) ∙ q) k
+
+  pub line-passes-unflag : (r t : Bool) → r ≡ t → not r ≡ false → x ≡ rest → x ≡ stop-if (not t) e rest
+  line-passes-unflag r t p q k = line-passes (not t) (ap not (sym p) ∙ q) k
+
+pub ruleset lines = (lt-ltb, le-ltb, le-leb, lt-leb, eq-eqb, ne-eqb, not-yes, not-no, line-stops, line-passes)
+
+pub ruleset flag-lines = (lines, line-stops-flag, line-passes-flag, line-stops-unflag, line-passes-unflag)

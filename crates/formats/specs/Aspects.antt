@@ -1,0 +1,64 @@
+-- The aspects that a copy chooses of a format, and what they bring.
+use Prim.Native.Nat.{ℕ}
+use lib.Dec.{eqb}
+use Rattle.checks.specs.Checks.{pick, stop-if, _$_}
+use Rattle.flags.specs.Flags.{met}
+use Rattle.measures.specs.declared.OptionU32.{OptionU32}
+use Rattle.measures.specs.declared.OptionU32.the-variants.{Given, Absent}
+use Rattle.formats.specs.declared.FormatRow.{FormatRow}
+use Rattle.formats.specs.declared.TextureAspect.{TextureAspect}
+use Rattle.formats.specs.declared.TextureAspect.the-variants.{All, StencilOnly, DepthOnly, Plane0, Plane1, Plane2}
+use Rattle.formats.specs.Sheet.{rowOf, aspectsOf, isMultiPlanar, none}
+
+-- a word of aspects met with those asked
+unfoldable pub askedOf : ℕ → TextureAspect → ℕ
+askedOf aspects All = aspects
+askedOf aspects StencilOnly = met aspects 4
+askedOf aspects DepthOnly = met aspects 2
+askedOf aspects Plane0 = met aspects 8
+askedOf aspects Plane1 = met aspects 16
+askedOf aspects Plane2 = met aspects 32
+
+-- the chosen aspects: the format's bits met with those asked
+unfoldable pub chosenAspects : ℕ → TextureAspect → ℕ
+chosenAspects format asked = askedOf (aspectsOf format) asked
+
+-- the bytes of a block of exactly one aspect, colour, depth, stencil, plane 0 or plane 1
+unfoldable pub bytesOf : FormatRow → ℕ → ℕ
+bytesOf row aspects =
+    stop-if (eqb aspects 1) (row .color) $
+    stop-if (eqb aspects 2) (row .depth) $
+    stop-if (eqb aspects 4) (row .stencil) $
+    stop-if (eqb aspects 8) (row .«plane_0») $
+    stop-if (eqb aspects 16) (row .«plane_1») $
+    none
+
+abbrev pub unlessNone : ℕ → OptionU32
+unlessNone bytes = pick (eqb bytes none) Absent (Given bytes)
+
+-- the bytes of a block of what is chosen, where it has some
+unfoldable pub blockCopySize : ℕ → TextureAspect → OptionU32
+blockCopySize format asked = unlessNone (bytesOf (rowOf format) (chosenAspects format asked))
+
+-- the format that a plane of a planar format may be split into: r8unorm of plane 0, rg8unorm of plane 1
+unfoldable pub planeFormat : TextureAspect → OptionU32
+planeFormat All = Absent
+planeFormat StencilOnly = Absent
+planeFormat DepthOnly = Absent
+planeFormat Plane0 = Given 0
+planeFormat Plane1 = Given 1
+planeFormat Plane2 = Absent
+
+unfoldable pub aspectSpecificFormat : ℕ → TextureAspect → OptionU32
+aspectSpecificFormat format asked =
+    stop-if (isMultiPlanar format) (planeFormat asked) $
+    Absent
+
+-- plane 1 of a planar format is halved both ways
+unfoldable pub subsamplingFactor : TextureAspect → ℕ
+subsamplingFactor All = 1
+subsamplingFactor StencilOnly = 1
+subsamplingFactor DepthOnly = 1
+subsamplingFactor Plane0 = 1
+subsamplingFactor Plane1 = 2
+subsamplingFactor Plane2 = 1

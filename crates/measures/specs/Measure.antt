@@ -1,0 +1,20 @@
+-- Texels counted in blocks, of any block size of at least 1.
+use Prim.Native.Nat.{ℕ, _+_, _-_, _*_, _/_}
+use Rattle.measures.specs.declared.Extent3d.{Extent3d}
+
+-- how many blocks of `size` texels hold n texels: the quotient, rounded up
+unfoldable pub blocksOf : ℕ → ℕ → ℕ
+blocksOf n size = (n + (size - 1)) / size
+
+-- n texels rounded up to whole blocks
+unfoldable pub roundedUp : ℕ → ℕ → ℕ
+roundedUp n size = blocksOf n size * size
+
+-- width and height rounded up to whole blocks, depth or layers as they are
+unfoldable pub physicalSize : Extent3d → ℕ → ℕ → Extent3d
+physicalSize e blockWidth blockHeight =
+    record {
+      width = roundedUp (e .width) blockWidth;
+      height = roundedUp (e .height) blockHeight;
+      «depth_or_array_layers» = e .«depth_or_array_layers»;
+    }

@@ -1,0 +1,12 @@
+-- `fields_in_bounds` meets its contract.
+-- Assumes nothing.
+use borrow.Author.Needs.{needs}
+use Rattle.records.specs.Bounds.{fieldsInBounds}
+use Rattle.records.proofs.fields_in_bounds.Statement.{statement}
+use Rattle.records.proofs.fields_in_bounds.Tie as tie
+
+pub fields-in-bounds-spec : {M : Type 1} → statement M
+unfolding fieldsInBounds
+fields-in-bounds-spec =
+    tie.close
+    (tie.spec (λ c κs. search needs) (λ c κs. search needs) (λ c κs. search needs) (λ c κs. search needs) (λ c κs. search needs) (λ c κs. search needs) (λ c. cc))

@@ -1,0 +1,4 @@
+pub mod Limits
+pub mod Bounds
+pub mod Extents
+pub mod Laws

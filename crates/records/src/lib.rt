@@ -1,0 +1,263 @@
+// The records of a copy, their bounds, and the extents of a texture's level.
+ghost use mathlib.Core.Path.{_≡_};
+ghost use mathlib.Core.Bool.{true, _&&_, _||_};
+ghost use mathlib.Core.List.{[], _∷_};
+ghost use Prim.Native.Nat.{_<_, max};
+ghost use Rattle.checks.specs.Checks.{every};
+ghost use Rattle.records.specs.Bounds.{within, multiple, bufferInBounds, sizeInBounds, mipSide, levelsInBounds, mayBeMultisampled, samplesInBounds, dimensionSuits, sidesWhole, planesSuit, fieldsInBounds, formatSuits, textureInBounds, bufferChecked, textureChecked};
+ghost use Rattle.records.specs.Extents.{logicalExtent, physicalExtent};
+ghost use Rattle.records.specs.Laws.{RecordLaws};
+use flags::BufferUsages;
+use flags::TextureUsages;
+use levels::TextureDimension;
+use measures::Extent3d;
+use refusals::Checked;
+use refusals::CopySide;
+use refusals::TransferError;
+
+const MAX_BUFFER_SIZE: u64 = 268_435_456;
+
+const MAX_BUFFER_USAGE: u32 = 1023;
+
+const MAX_TEXTURE_USAGE: u32 = 31;
+
+// A side in 1D and 2D.
+const MAX_SIDE: u32 = 8192;
+
+// A side in 3D.
+const MAX_SIDE_3D: u32 = 2048;
+
+// The layers of a 2D texture.
+const MAX_LAYERS: u32 = 256;
+
+pub struct Buffer {
+    pub size: u64,
+    pub usage: BufferUsages,
+}
+
+// `dimension` is 1, 2 or 3 and `format` a number of the table where the record is within its bounds.
+pub struct Texture {
+    pub format: u32,
+    pub dimension: u32,
+    pub size: Extent3d,
+    pub mip_level_count: u32,
+    pub sample_count: u32,
+    pub usage: TextureUsages,
+}
+
+// What the device can do. Any two facts are within its bounds.
+pub struct Device {
+    pub depth_texture_and_buffer_copies: bool,
+    pub unrestricted_index_buffer: bool,
+}
+
+fn both(a: bool, b: bool) -> bool
+    ensures { λ r. ⌜ r ≡ (a && b) ⌝ }
+{
+    a && b
+}
+
+fn either(a: bool, b: bool) -> bool
+    ensures { λ r. ⌜ r ≡ (a || b) ⌝ }
+{
+    a || b
+}
+
+fn all_three(a: bool, b: bool, c: bool) -> bool
+    ensures { λ r. ⌜ r ≡ every (a ∷ b ∷ c ∷ []) ⌝ }
+{
+    both(a, both(b, c))
+}
+
+fn all_five(a: bool, b: bool, c: bool, d: bool, e: bool) -> bool
+    ensures { λ r. ⌜ r ≡ every (a ∷ b ∷ c ∷ d ∷ e ∷ []) ⌝ }
+{
+    both(a, both(b, all_three(c, d, e)))
+}
+
+fn larger(a: u32, b: u32) -> u32
+    ensures { λ r. ⌜ r ≡ max a b ⌝ }
+{
+    if a < b { b } else { a }
+}
+
+fn is_within(least: u32, n: u32, most: u32) -> bool
+    ensures { λ r. ⌜ r ≡ within least n most ⌝ }
+{
+    both(least <= n, n <= most)
+}
+
+fn is_multiple_of(n: u32, m: u32) -> bool
+    requires { ⌜ 0 < m ⌝ }
+    ensures { λ r. ⌜ r ≡ multiple n m ⌝ }
+{
+    n % m == 0
+}
+
+fn buffer_in_bounds(b: Buffer) -> bool
+    ensures { λ r. ⌜ r ≡ bufferInBounds b ⌝ }
+{
+    let usage = b.usage;
+    both(b.size <= MAX_BUFFER_SIZE, usage.0 <= MAX_BUFFER_USAGE)
+}
+
+fn size_in_bounds(dimension: TextureDimension, e: Extent3d) -> bool
+    ensures { λ r. ⌜ r ≡ sizeInBounds dimension e ⌝ }
+{
+    let depth = e.depth_or_array_layers;
+    match dimension {
+        TextureDimension::D1 => {
+            all_three(is_within(1, e.width, MAX_SIDE), e.height == 1, depth == 1)
+        }
+        TextureDimension::D2 => all_three(
+            is_within(1, e.width, MAX_SIDE),
+            is_within(1, e.height, MAX_SIDE),
+            is_within(1, depth, MAX_LAYERS),
+        ),
+        TextureDimension::D3 => all_three(
+            is_within(1, e.width, MAX_SIDE_3D),
+            is_within(1, e.height, MAX_SIDE_3D),
+            is_within(1, depth, MAX_SIDE_3D),
+        ),
+    }
+}
+
+// The side that is halved from level to level.
+fn mip_side(dimension: TextureDimension, e: Extent3d) -> u32
+    ensures { λ r. ⌜ r ≡ mipSide dimension e ⌝ }
+{
+    let side = larger(e.width, e.height);
+    match dimension {
+        TextureDimension::D1 => 1,
+        TextureDimension::D2 => side,
+        TextureDimension::D3 => larger(side, e.depth_or_array_layers),
+    }
+}
+
+fn levels_in_bounds(dimension: TextureDimension, e: Extent3d, levels: u32) -> bool
+    ensures { λ r. ⌜ r ≡ levelsInBounds dimension e levels ⌝ }
+{
+    levels::may_have_levels(mip_side(dimension, e), levels)
+}
+
+fn fields_in_bounds(t: Texture) -> bool
+    ensures { λ r. ⌜ r ≡ fieldsInBounds t ⌝ }
+{
+    let size = t.size;
+    let usage = t.usage;
+    let dimension = levels::texture_dimension(t.dimension);
+    all_five(
+        formats::is_format(t.format),
+        is_within(1, t.dimension, 3),
+        size_in_bounds(dimension, size),
+        levels_in_bounds(dimension, size, t.mip_level_count),
+        usage.0 <= MAX_TEXTURE_USAGE,
+    )
+}
+
+fn may_be_multisampled(format: u32) -> bool
+    ensures { λ r. ⌜ r ≡ mayBeMultisampled format ⌝ }
+{
+    either(format <= 10, is_within(15, format, 20))
+}
+
+fn samples_in_bounds(t: Texture) -> bool
+    ensures { λ r. ⌜ r ≡ samplesInBounds t ⌝ }
+{
+    let size = t.size;
+    let four = all_five(
+        t.sample_count == 4,
+        t.dimension == 2,
+        size.depth_or_array_layers == 1,
+        t.mip_level_count == 1,
+        may_be_multisampled(t.format),
+    );
+    either(t.sample_count == 1, four)
+}
+
+fn dimension_suits(format: u32, dimension: u32) -> bool
+    ensures { λ r. ⌜ r ≡ dimensionSuits format dimension ⌝ }
+{
+    either(format <= 10, dimension == 2)
+}
+
+fn sides_whole(format: u32, e: Extent3d) -> bool
+    ensures { λ r. ⌜ r ≡ sidesWhole format e ⌝ }
+{
+    let block = formats::block_dimensions(format);
+    both(
+        is_multiple_of(e.width, block.width),
+        is_multiple_of(e.height, block.height),
+    )
+}
+
+fn planes_suit(t: Texture) -> bool
+    ensures { λ r. ⌜ r ≡ planesSuit t ⌝ }
+{
+    let size = t.size;
+    let suits = all_three(
+        is_multiple_of(size.width, 2),
+        is_multiple_of(size.height, 2),
+        t.mip_level_count == 1,
+    );
+    either(!formats::is_multi_planar_format(t.format), suits)
+}
+
+fn format_suits(t: Texture) -> bool
+    ensures { λ r. ⌜ r ≡ formatSuits t ⌝ }
+{
+    let size = t.size;
+    all_three(
+        dimension_suits(t.format, t.dimension),
+        sides_whole(t.format, size),
+        planes_suit(t),
+    )
+}
+
+fn texture_in_bounds(t: Texture) -> bool
+    ensures { λ r. ⌜ r ≡ textureInBounds t ⌝ }
+{
+    all_three(fields_in_bounds(t), samples_in_bounds(t), format_suits(t))
+}
+
+// 3 where a buffer's record is out of its bounds.
+pub fn check_buffer(b: Buffer, side: CopySide) -> Checked
+    ensures { λ r. ⌜ r ≡ bufferChecked b side ⌝ }
+{
+    if !buffer_in_bounds(b) {
+        return Checked::Refused(TransferError::InvalidBufferRecord { side });
+    }
+    Checked::GoOn
+}
+
+// 2 where a texture's record is out of its bounds.
+pub fn check_texture(t: Texture, side: CopySide) -> Checked
+    ensures { λ r. ⌜ r ≡ textureChecked t side ⌝ }
+{
+    if !texture_in_bounds(t) {
+        return Checked::Refused(TransferError::InvalidTextureRecord { side });
+    }
+    Checked::GoOn
+}
+
+// The logical extent of a level.
+pub fn logical_extent(t: Texture, level: u32) -> Extent3d
+    ensures { λ r. ⌜ r ≡ logicalExtent t level ⌝ }
+{
+    let size = t.size;
+    levels::mip_level_size(levels::texture_dimension(t.dimension), size, level)
+}
+
+// The physical extent of a level: its width and height rounded up to blocks.
+pub fn physical_extent(t: Texture, level: u32) -> Extent3d
+    requires { ⌜ textureInBounds t ≡ true ⌝ }
+    ensures { λ r. ⌜ r ≡ physicalExtent t level ⌝ }
+{
+    let block = formats::block_dimensions(t.format);
+    measures::physical_size(logical_extent(t, level), block.width, block.height)
+}
+
+// Asks the check for the laws of records; nothing runs here.
+pub fn record_laws()
+    ensures { λ _. ⌜ RecordLaws ⌝ }
+{}

@@ -1,0 +1,61 @@
+//! Stand-in for the device: its two facts.
+
+use alloc::boxed::Box;
+
+use crate::snatch::SnatchLock;
+
+/// A device is never lost here.
+#[derive(Clone, Debug)]
+#[doc(hidden)]
+pub enum DeviceError {}
+
+/// A fact that a copy needs and the device lacks.
+#[derive(Clone, Debug)]
+pub struct MissingDownlevelFlags(pub wgt::DownlevelFlags);
+
+impl std::fmt::Display for MissingDownlevelFlags {
+    fn fmt(&self, formatter: &mut std::fmt::Formatter<'_>) -> std::fmt::Result {
+        write!(formatter, "the device lacks {:?}", self.0)
+    }
+}
+
+impl std::error::Error for MissingDownlevelFlags {}
+
+/// What the device can do beyond the least.
+#[derive(Debug)]
+pub(crate) struct DownlevelCapabilities {
+    pub(crate) flags: wgt::DownlevelFlags,
+}
+
+/// A device.
+#[derive(Debug)]
+pub struct Device {
+    pub(crate) downlevel: DownlevelCapabilities,
+    pub(crate) alignments: hal::Alignments,
+    pub(crate) zero_buffer: Box<hal::RawBuffer>,
+    pub(crate) instance_flags: wgt::InstanceFlags,
+    pub(crate) snatchable_lock: SnatchLock,
+}
+
+impl Device {
+    pub fn new(flags: wgt::DownlevelFlags) -> Self {
+        Self {
+            downlevel: DownlevelCapabilities { flags },
+            alignments: hal::Alignments,
+            zero_buffer: Box::new(hal::RawBuffer),
+            instance_flags: wgt::InstanceFlags::from_bits_retain(0),
+            snatchable_lock: SnatchLock,
+        }
+    }
+
+    pub(crate) fn require_downlevel_flags(
+        &self,
+        flags: wgt::DownlevelFlags,
+    ) -> Result<(), MissingDownlevelFlags> {
+        if self.downlevel.flags.contains(flags) {
+            Ok(())
+        } else {
+            Err(MissingDownlevelFlags(flags))
+        }
+    }
+}
