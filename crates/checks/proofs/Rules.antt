@@ -1,7 +1,8 @@
 -- What `search` is handed where a definition goes by tests and by an order of checks.
 -- Assumes nothing.
 use mathlib.Core.Path.{_≡_, refl, sym, _∙_, ap}
-use mathlib.Core.Bool.{Bool, true, false, not, _&&_}
+use mathlib.Core.Bool.{Bool, true, false, not, _&&_, _||_}
+use mathlib.Core.Logic.{_⊎_, inl, inr}
 use mathlib.Core.List.{List, [], _∷_}
 use Prim.Native.Nat.{ℕ}
 use native.Mathlib.Omega.{arith}
@@ -23,6 +24,20 @@ not-no t h = rw h
 pub both-true : (s t : Bool) → (s && t) ≡ true → (s ≡ true) × (t ≡ true)
 both-true true t e = (refl, e)
 both-true false t e = let z : _≡_ {A = ℕ} 0 1 = cc in absurd (omega arith)
+
+-- one of two that holds
+pub either : (s t : Bool) → (s || t) ≡ true → (s ≡ true) ⊎ (t ≡ true)
+either true t e = inl refl
+either false t e = inr e
+
+-- two of which neither holds; of two that do not both hold, the second where the first does
+pub neither : (s t : Bool) → (s || t) ≡ false → (s ≡ false) × (t ≡ false)
+neither true t e = let z : _≡_ {A = ℕ} 0 1 = cc in absurd (omega arith)
+neither false t e = (refl, e)
+
+pub not-both : (s t : Bool) → (s && t) ≡ false → s ≡ true → t ≡ false
+not-both true t e h = e
+not-both false t e h = let z : _≡_ {A = ℕ} 0 1 = cc in absurd (omega arith)
 
 -- several tests that all hold, one by one
 abbrev pub AllTrue : List Bool → Type 0
@@ -61,3 +76,13 @@ module _ (R : Type 0) (e rest x : R) where
 pub ruleset lines = (lt-ltb, le-ltb, le-leb, lt-leb, eq-eqb, ne-eqb, not-yes, not-no, line-stops, line-passes)
 
 pub ruleset flag-lines = (lines, line-stops-flag, line-passes-flag, line-stops-unflag, line-passes-unflag)
+
+-- ---- the other way: an order of checks that answered what no stop of it answers
+pub went-past : (R : Type 0) (t : Bool) (e rest x : R) → stop-if t e rest ≡ x → (e ≡ x → ⊥) → (t ≡ false) × (rest ≡ x)
+unfolding stop-if
+went-past R true e rest x h other = absurd (other h)
+went-past R false e rest x h other = (refl, h)
+
+pub goes-past : (R : Type 0) (t : Bool) (e rest : R) → t ≡ false → stop-if t e rest ≡ rest
+unfolding stop-if
+goes-past R t e rest h = rw h

@@ -2,7 +2,7 @@
 // format's aspects.
 ghost use mathlib.Core.Path.{_≡_};
 ghost use Prim.Native.Nat.{_<_};
-ghost use Rattle.flags.specs.Flags.{holds, met, bufferUsages, textureUsages, formatAspects};
+ghost use Rattle.flags.specs.Flags.{holds, met, isOne, shared, meets, bufferUsages, textureUsages, formatAspects};
 
 pub struct BufferUsages(pub u32);
 
@@ -16,6 +16,14 @@ fn is_set(word: u32, flag: u32) -> bool
     ensures { λ r. ⌜ r ≡ holds word flag ⌝ }
 {
     word / flag % 2 == 1
+}
+
+// Whether a single flag is set in both words.
+fn is_shared(a: u32, b: u32, flag: u32) -> bool
+    requires { ⌜ 0 < flag ⌝ }
+    ensures { λ r. ⌜ r ≡ shared a b flag ⌝ }
+{
+    checks::both(is_set(a, flag), is_set(b, flag))
 }
 
 impl BufferUsages {
@@ -114,5 +122,34 @@ impl FormatAspects {
         } else {
             FormatAspects(0)
         }
+    }
+
+    // Whether these are exactly one aspect.
+    pub fn is_one(self) -> bool
+        ensures { λ r. ⌜ r ≡ isOne (self .0) ⌝ }
+    {
+        let a = self.0;
+        a == 1 || (a == 2 || (a == 4 || (a == 8 || (a == 16 || a == 32))))
+    }
+
+    // Whether some aspect is in both.
+    pub fn meets(self, other: FormatAspects) -> bool
+        ensures { λ r. ⌜ r ≡ meets (self .0) (other .0) ⌝ }
+    {
+        let a = self.0;
+        let b = other.0;
+        checks::either(
+            is_shared(a, b, 1),
+            checks::either(
+                is_shared(a, b, 2),
+                checks::either(
+                    is_shared(a, b, 4),
+                    checks::either(
+                        is_shared(a, b, 8),
+                        checks::either(is_shared(a, b, 16), is_shared(a, b, 32)),
+                    ),
+                ),
+            ),
+        )
     }
 }

@@ -137,6 +137,19 @@ isCombinedDepthStencil format = eqb (aspectsOf format) DEPTH-STENCIL
 unfoldable pub removeSrgb : ℕ → ℕ
 removeSrgb format = format - rowOf format .srgb
 
+-- formats that rules name
+abbrev pub depth24plus : ℕ
+depth24plus = 17
+
+abbrev pub depth24plus-stencil8 : ℕ
+depth24plus-stencil8 = 18
+
+abbrev pub depth32float : ℕ
+depth32float = 19
+
+abbrev pub depth32float-stencil8 : ℕ
+depth32float-stencil8 = 20
+
 -- NV12
 unfoldable pub isMultiPlanar : ℕ → Bool
 isMultiPlanar format = eqb format 21

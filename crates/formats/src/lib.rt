@@ -17,6 +17,14 @@ const LINEAR: u32 = 0;
 // A row that is the srgb of the row before it.
 const SRGB: u32 = 1;
 
+pub const DEPTH24_PLUS: u32 = 17;
+
+pub const DEPTH24_PLUS_STENCIL8: u32 = 18;
+
+pub const DEPTH32_FLOAT: u32 = 19;
+
+pub const DEPTH32_FLOAT_STENCIL8: u32 = 20;
+
 const NV12: u32 = 21;
 
 const PLANES: FormatAspects = FormatAspects(24);

@@ -18,10 +18,10 @@ halved-is n zero = rw (pow-zero, div-one)
 halved-is n (suc l) = rw (halved-is n l, div-div-eq-div-mul, pow-suc)
 
 -- 2 ^ l is at most n exactly where l halvings leave something
-reaches : (n l : ℕ) → 2 ^ l ≤ n → 0 < halved n l
+pub reaches : (n l : ℕ) → 2 ^ l ≤ n → 0 < halved n l
 reaches n l h = let some : 1 ≤ n / 2 ^ l = le-div-iff-mul-le (one-le-pow l 2 (omega arith)) .1 (omega arith) in omega (arith, halved-is n l)
 
-reached : (n l : ℕ) → 0 < halved n l → 2 ^ l ≤ n
+pub reached : (n l : ℕ) → 0 < halved n l → 2 ^ l ≤ n
 reached n l h =
     let some : 1 ≤ n / 2 ^ l = omega (arith, halved-is n l) in
     let held : 1 * 2 ^ l ≤ n = le-div-iff-mul-le (one-le-pow l 2 (omega arith)) .0 some in

@@ -1,6 +1,19 @@
 -- Texels counted in blocks, of any block size of at least 1.
-use Prim.Native.Nat.{ℕ, _+_, _-_, _*_, _/_}
+use Prim.Native.Nat.{ℕ, _+_, _-_, _*_, _/_, _%_}
+use mathlib.Core.Bool.{Bool}
+use lib.Dec.{eqb}
 use Rattle.measures.specs.declared.Extent3d.{Extent3d}
+use Rattle.measures.specs.declared.OptionU32.{OptionU32}
+use Rattle.measures.specs.declared.OptionU32.the-variants.{Given, Absent}
+
+-- a value, or another where it is absent
+unfoldable pub orElse : OptionU32 → ℕ → ℕ
+orElse (Given n) other = n
+orElse Absent other = other
+
+-- n is a multiple of m
+unfoldable pub multiple : ℕ → ℕ → Bool
+multiple n m = eqb (n % m) 0
 
 -- how many blocks of `size` texels hold n texels: the quotient, rounded up
 unfoldable pub blocksOf : ℕ → ℕ → ℕ

@@ -1,7 +1,7 @@
 // Texels and blocks, extents and origins, and the values that may be absent.
 ghost use mathlib.Core.Path.{_≡_};
 ghost use Prim.Native.Nat.{_+_, _<_, _≤_, _^_};
-ghost use Rattle.measures.specs.Measure.{blocksOf, roundedUp, physicalSize};
+ghost use Rattle.measures.specs.Measure.{orElse, multiple, blocksOf, roundedUp, physicalSize};
 ghost use Rattle.measures.specs.Laws.{EveryBlockSize};
 
 // Texels along one side.
@@ -62,6 +62,23 @@ pub enum OptionU64 {
 pub struct Range {
     pub start: u64,
     pub end: u64,
+}
+
+// A value, or another where it is absent.
+pub fn or_else(value: OptionU32, other: u64) -> u64
+    ensures { λ r. ⌜ r ≡ orElse value other ⌝ }
+{
+    match value {
+        OptionU32::Given(n) => n as u64,
+        OptionU32::Absent => other,
+    }
+}
+
+pub fn is_multiple_of(n: u32, m: u32) -> bool
+    requires { ⌜ 0 < m ⌝ }
+    ensures { λ r. ⌜ r ≡ multiple n m ⌝ }
+{
+    n % m == 0
 }
 
 // Width and height rounded up to whole blocks.

@@ -10,6 +10,7 @@ use borrow.Author.Tests.{leb-true, eqb-true}
 use Rattle.checks.specs.Checks.{every}
 use Rattle.checks.proofs.Rules.{both-true, all-true}
 use Rattle.measures.specs.declared.Extent3d.{Extent3d}
+use Rattle.measures.specs.Measure.{multiple}
 use Rattle.levels.specs.declared.TextureDimension.{TextureDimension}
 use Rattle.levels.specs.declared.TextureDimension.the-variants.{D1, D2, D3}
 use Rattle.levels.specs.Level.{dimensionOf, mipLevelSize}
@@ -18,7 +19,7 @@ use Rattle.formats.specs.Sheet.{isFormat, blockWidth, blockHeight}
 use Rattle.records.specs.declared.Buffer.{Buffer}
 use Rattle.records.specs.declared.Texture.{Texture}
 use Rattle.records.specs.Limits.{maxBufferSize, maxSide, maxSide3d, maxLayers, maxLevels, maxTextureUsage}
-use Rattle.records.specs.Bounds.{within, multiple, bufferInBounds, sizeInBounds, mipSide, levelsInBounds, sidesWhole, fieldsInBounds, samplesInBounds, formatSuits, planesSuit, dimensionSuits, textureInBounds}
+use Rattle.records.specs.Bounds.{within, bufferInBounds, sizeInBounds, mipSide, levelsInBounds, sidesWhole, fieldsInBounds, samplesInBounds, formatSuits, planesSuit, dimensionSuits, textureInBounds}
 use Rattle.records.specs.Extents.{logicalExtent}
 use Rattle.records.specs.Laws.{Sized, TextureLaws, RecordLaws}
 

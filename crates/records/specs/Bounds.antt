@@ -1,10 +1,11 @@
 -- The bounds of the buffer and texture records.
-use Prim.Native.Nat.{ℕ, _%_, max}
+use Prim.Native.Nat.{ℕ, max}
 use mathlib.Core.Bool.{Bool, true, not, _&&_, _||_}
 use mathlib.Core.List.{[], _∷_}
 use lib.Dec.{eqb, leb}
 use Rattle.checks.specs.Checks.{every, stop-if, _$_}
 use Rattle.measures.specs.declared.Extent3d.{Extent3d}
+use Rattle.measures.specs.Measure.{multiple}
 use Rattle.levels.specs.declared.TextureDimension.{TextureDimension}
 use Rattle.levels.specs.declared.TextureDimension.the-variants.{D1, D2, D3}
 use Rattle.levels.specs.Level.{dimensionOf, maxMipLevels}
@@ -20,10 +21,6 @@ use Rattle.records.specs.Limits.{maxBufferSize, maxBufferUsage, maxTextu
 -- n is at least one number and at most another
 unfoldable pub within : ℕ → ℕ → ℕ → Bool
 within least n most = leb least n && leb n most
-
--- n is a multiple of m
-unfoldable pub multiple : ℕ → ℕ → Bool
-multiple n m = eqb (n % m) 0
 
 -- size 0 to 268,435,456, usage 0 to 1,023
 unfoldable pub bufferInBounds : Buffer → Bool

@@ -1,16 +1,17 @@
 // The records of a copy, their bounds, and the extents of a texture's level.
 ghost use mathlib.Core.Path.{_≡_};
-ghost use mathlib.Core.Bool.{true, _&&_, _||_};
-ghost use mathlib.Core.List.{[], _∷_};
-ghost use Prim.Native.Nat.{_<_, max};
-ghost use Rattle.checks.specs.Checks.{every};
-ghost use Rattle.records.specs.Bounds.{within, multiple, bufferInBounds, sizeInBounds, mipSide, levelsInBounds, mayBeMultisampled, samplesInBounds, dimensionSuits, sidesWhole, planesSuit, fieldsInBounds, formatSuits, textureInBounds, bufferChecked, textureChecked};
+ghost use mathlib.Core.Bool.{true};
+ghost use Prim.Native.Nat.{max};
+ghost use Rattle.records.specs.Bounds.{within, bufferInBounds, sizeInBounds, mipSide, levelsInBounds, mayBeMultisampled, samplesInBounds, dimensionSuits, sidesWhole, planesSuit, fieldsInBounds, formatSuits, textureInBounds, bufferChecked, textureChecked};
 ghost use Rattle.records.specs.Extents.{logicalExtent, physicalExtent};
 ghost use Rattle.records.specs.Laws.{RecordLaws};
 use flags::BufferUsages;
 use flags::TextureUsages;
+use formats::TextureAspect;
 use levels::TextureDimension;
 use measures::Extent3d;
+use measures::OptionU32;
+use measures::Origin3d;
 use refusals::Checked;
 use refusals::CopySide;
 use refusals::TransferError;
@@ -45,34 +46,24 @@ pub struct Texture {
     pub usage: TextureUsages,
 }
 
+// One side of a copy: the part of a texture.
+pub struct TexelCopyTextureInfo {
+    pub mip_level: u32,
+    pub origin: Origin3d,
+    pub aspect: TextureAspect,
+}
+
+// The other side: how rows and images lie in a buffer.
+pub struct TexelCopyBufferLayout {
+    pub offset: u64,
+    pub bytes_per_row: OptionU32,
+    pub rows_per_image: OptionU32,
+}
+
 // What the device can do. Any two facts are within its bounds.
 pub struct Device {
     pub depth_texture_and_buffer_copies: bool,
     pub unrestricted_index_buffer: bool,
-}
-
-fn both(a: bool, b: bool) -> bool
-    ensures { λ r. ⌜ r ≡ (a && b) ⌝ }
-{
-    a && b
-}
-
-fn either(a: bool, b: bool) -> bool
-    ensures { λ r. ⌜ r ≡ (a || b) ⌝ }
-{
-    a || b
-}
-
-fn all_three(a: bool, b: bool, c: bool) -> bool
-    ensures { λ r. ⌜ r ≡ every (a ∷ b ∷ c ∷ []) ⌝ }
-{
-    both(a, both(b, c))
-}
-
-fn all_five(a: bool, b: bool, c: bool, d: bool, e: bool) -> bool
-    ensures { λ r. ⌜ r ≡ every (a ∷ b ∷ c ∷ d ∷ e ∷ []) ⌝ }
-{
-    both(a, both(b, all_three(c, d, e)))
 }
 
 fn larger(a: u32, b: u32) -> u32
@@ -84,21 +75,14 @@ fn larger(a: u32, b: u32) -> u32
 fn is_within(least: u32, n: u32, most: u32) -> bool
     ensures { λ r. ⌜ r ≡ within least n most ⌝ }
 {
-    both(least <= n, n <= most)
-}
-
-fn is_multiple_of(n: u32, m: u32) -> bool
-    requires { ⌜ 0 < m ⌝ }
-    ensures { λ r. ⌜ r ≡ multiple n m ⌝ }
-{
-    n % m == 0
+    checks::both(least <= n, n <= most)
 }
 
 fn buffer_in_bounds(b: Buffer) -> bool
     ensures { λ r. ⌜ r ≡ bufferInBounds b ⌝ }
 {
     let usage = b.usage;
-    both(b.size <= MAX_BUFFER_SIZE, usage.0 <= MAX_BUFFER_USAGE)
+    checks::both(b.size <= MAX_BUFFER_SIZE, usage.0 <= MAX_BUFFER_USAGE)
 }
 
 fn size_in_bounds(dimension: TextureDimension, e: Extent3d) -> bool
@@ -107,14 +91,14 @@ fn size_in_bounds(dimension: TextureDimension, e: Extent3d) -> bool
     let depth = e.depth_or_array_layers;
     match dimension {
         TextureDimension::D1 => {
-            all_three(is_within(1, e.width, MAX_SIDE), e.height == 1, depth == 1)
+            checks::all_three(is_within(1, e.width, MAX_SIDE), e.height == 1, depth == 1)
         }
-        TextureDimension::D2 => all_three(
+        TextureDimension::D2 => checks::all_three(
             is_within(1, e.width, MAX_SIDE),
             is_within(1, e.height, MAX_SIDE),
             is_within(1, depth, MAX_LAYERS),
         ),
-        TextureDimension::D3 => all_three(
+        TextureDimension::D3 => checks::all_three(
             is_within(1, e.width, MAX_SIDE_3D),
             is_within(1, e.height, MAX_SIDE_3D),
             is_within(1, depth, MAX_SIDE_3D),
@@ -146,7 +130,7 @@ fn fields_in_bounds(t: Texture) -> bool
     let size = t.size;
     let usage = t.usage;
     let dimension = levels::texture_dimension(t.dimension);
-    all_five(
+    checks::all_five(
         formats::is_format(t.format),
         is_within(1, t.dimension, 3),
         size_in_bounds(dimension, size),
@@ -158,36 +142,36 @@ fn fields_in_bounds(t: Texture) -> bool
 fn may_be_multisampled(format: u32) -> bool
     ensures { λ r. ⌜ r ≡ mayBeMultisampled format ⌝ }
 {
-    either(format <= 10, is_within(15, format, 20))
+    checks::either(format <= 10, is_within(15, format, 20))
 }
 
 fn samples_in_bounds(t: Texture) -> bool
     ensures { λ r. ⌜ r ≡ samplesInBounds t ⌝ }
 {
     let size = t.size;
-    let four = all_five(
+    let four = checks::all_five(
         t.sample_count == 4,
         t.dimension == 2,
         size.depth_or_array_layers == 1,
         t.mip_level_count == 1,
         may_be_multisampled(t.format),
     );
-    either(t.sample_count == 1, four)
+    checks::either(t.sample_count == 1, four)
 }
 
 fn dimension_suits(format: u32, dimension: u32) -> bool
     ensures { λ r. ⌜ r ≡ dimensionSuits format dimension ⌝ }
 {
-    either(format <= 10, dimension == 2)
+    checks::either(format <= 10, dimension == 2)
 }
 
 fn sides_whole(format: u32, e: Extent3d) -> bool
     ensures { λ r. ⌜ r ≡ sidesWhole format e ⌝ }
 {
     let block = formats::block_dimensions(format);
-    both(
-        is_multiple_of(e.width, block.width),
-        is_multiple_of(e.height, block.height),
+    checks::both(
+        measures::is_multiple_of(e.width, block.width),
+        measures::is_multiple_of(e.height, block.height),
     )
 }
 
@@ -195,19 +179,19 @@ fn planes_suit(t: Texture) -> bool
     ensures { λ r. ⌜ r ≡ planesSuit t ⌝ }
 {
     let size = t.size;
-    let suits = all_three(
-        is_multiple_of(size.width, 2),
-        is_multiple_of(size.height, 2),
+    let suits = checks::all_three(
+        measures::is_multiple_of(size.width, 2),
+        measures::is_multiple_of(size.height, 2),
         t.mip_level_count == 1,
     );
-    either(!formats::is_multi_planar_format(t.format), suits)
+    checks::either(!formats::is_multi_planar_format(t.format), suits)
 }
 
 fn format_suits(t: Texture) -> bool
     ensures { λ r. ⌜ r ≡ formatSuits t ⌝ }
 {
     let size = t.size;
-    all_three(
+    checks::all_three(
         dimension_suits(t.format, t.dimension),
         sides_whole(t.format, size),
         planes_suit(t),
@@ -217,7 +201,7 @@ fn format_suits(t: Texture) -> bool
 fn texture_in_bounds(t: Texture) -> bool
     ensures { λ r. ⌜ r ≡ textureInBounds t ⌝ }
 {
-    all_three(fields_in_bounds(t), samples_in_bounds(t), format_suits(t))
+    checks::all_three(fields_in_bounds(t), samples_in_bounds(t), format_suits(t))
 }
 
 // 3 where a buffer's record is out of its bounds.

@@ -1,0 +1,10 @@
+-- `is_shared` meets its contract.
+-- Assumes nothing.
+use borrow.Author.Needs.{needs}
+use Rattle.flags.specs.Flags.{shared}
+use Rattle.flags.proofs.is_shared.Statement.{statement}
+use Rattle.flags.proofs.is_shared.Tie as tie
+
+pub is-shared-spec : {M : Type 1} → statement M
+unfolding shared
+is-shared-spec = tie.close (tie.spec (λ c κs. search needs) (λ c κs. search needs) (λ c κs. search needs) (λ c. cc))

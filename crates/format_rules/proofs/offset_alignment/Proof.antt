@@ -1,0 +1,19 @@
+-- `offset_alignment` meets its contract.
+-- Assumes nothing.
+use mathlib.Core.Path.{sym, _∙_}
+use borrow.Author.Needs.{needs}
+use Rattle.format_rules.specs.Rules.{offsetAlignment}
+use Rattle.format_rules.proofs.offset_alignment.Statement.{statement}
+use Rattle.format_rules.proofs.offset_alignment.Tie as tie
+
+returns : tie.Need-returns
+unfolding offsetAlignment
+returns c = (rw (sym (c .before .is-depth-stencil-format .ensures) ∙ c .if1 .taken), search needs)
+
+returns-2 : tie.Need-returns-2
+unfolding offsetAlignment
+returns-2 c = (rw (sym (c .before .before .is-depth-stencil-format .ensures) ∙ c .before .if1 .left) (c .block-alignment .ensures .0), search needs)
+
+pub offset-alignment-spec : {M : Type 1} → statement M
+unfolding offsetAlignment
+offset-alignment-spec = tie.close (tie.spec (λ c κs. search needs) returns (λ c κs. search needs) returns-2)

@@ -1,0 +1,17 @@
+-- `block_bytes` meets its contract.
+-- Assumes nothing.
+use mathlib.Core.Path.{_≡_}
+use native.Mathlib.Omega.{arith}
+use borrow.Author.Needs.{needs}
+use Rattle.linear.proofs.Sums.{bytes-few}
+use Rattle.linear.specs.Linear.{blockBytes}
+use Rattle.linear.proofs.block_bytes.Statement.{statement}
+use Rattle.linear.proofs.block_bytes.Tie as tie
+
+returns : tie.Need-returns
+unfolding blockBytes
+returns c = let a = c .before .before .args in let e : c .or-else .result ≡ blockBytes (a .format) (a .aspect) = cc in (e, omega (arith, e, bytes-few (a .format) (a .aspect)))
+
+pub block-bytes-spec : {M : Type 1} → statement M
+unfolding blockBytes
+block-bytes-spec = tie.close (tie.spec (λ c κs. search needs) (λ c κs. search needs) returns)

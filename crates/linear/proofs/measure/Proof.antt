@@ -1,0 +1,13 @@
+-- `measure` meets its contract.
+-- Assumes nothing.
+use borrow.Author.Needs.{needs}
+use Rattle.linear.proofs.Rules.{sizes}
+use Rattle.linear.specs.Linear.{measured}
+use Rattle.linear.proofs.measure.Statement.{statement}
+use Rattle.linear.proofs.measure.Tie as tie
+
+pub measure-spec : {M : Type 1} → statement M
+unfolding measured
+measure-spec =
+    tie.close
+    (tie.spec (λ c κs. search needs) (λ c. search needs) (λ c. search needs) (λ c. search sizes depth 8) (λ c κs. search needs) (λ c. search needs) (λ c. search needs) (λ c. search sizes depth 8) (λ c κs. search needs) (λ c. search needs) (λ c. search needs) (λ c. search sizes depth 8) (λ c κs. search needs) (λ c. search sizes depth 8))

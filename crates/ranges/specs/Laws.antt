@@ -1,0 +1,39 @@
+-- What callers use of an accepted range.
+use mathlib.Core.Path.{_≡_}
+use mathlib.Core.Bool.{true}
+use Prim.Native.Nat.{ℕ, _+_, _%_, _≤_, _<_}
+use Rattle.measures.specs.declared.Extent3d.{Extent3d}
+use Rattle.formats.specs.Sheet.{blockWidth, blockHeight}
+use Rattle.refusals.specs.declared.CopySide.{CopySide}
+use Rattle.records.specs.declared.Texture.{Texture}
+use Rattle.records.specs.declared.TexelCopyTextureInfo.{TexelCopyTextureInfo}
+use Rattle.records.specs.Extents.{physicalExtent}
+use Rattle.ranges.specs.declared.CopyExtent.{CopyExtent}
+use Rattle.ranges.specs.declared.RangeChecked.the-variants.{GoOn}
+use Rattle.ranges.specs.Range.{rangeChecked, requiresExactSize, copyExtent, arrayLayerCount}
+
+pub record RangeLaws (view : TexelCopyTextureInfo) (t : Texture) (size : Extent3d) : Type 0 where
+  -- the level exists
+  pub level : view .«mip_level» < t .«mip_level_count»
+  -- the range lies inside the level's physical extent
+  pub x-inside : view .origin .x + size .width ≤ physicalExtent t (view .«mip_level») .width
+  pub y-inside : view .origin .y + size .height ≤ physicalExtent t (view .«mip_level») .height
+  pub z-inside : view .origin .z + size .«depth_or_array_layers» ≤ physicalExtent t (view .«mip_level») .«depth_or_array_layers»
+  -- and is whole blocks
+  pub x-whole : view .origin .x % blockWidth (t .format) ≡ 0
+  pub y-whole : view .origin .y % blockHeight (t .format) ≡ 0
+  pub width-whole : size .width % blockWidth (t .format) ≡ 0
+  pub height-whole : size .height % blockHeight (t .format) ≡ 0
+  -- where sides can only be copied whole, they are
+  pub exact-width : requiresExactSize t ≡ true → size .width ≡ physicalExtent t (view .«mip_level») .width
+  pub exact-height : requiresExactSize t ≡ true → size .height ≡ physicalExtent t (view .«mip_level») .height
+
+-- the rule goes on exactly where they hold, with the copy's extent and layers
+pub record RangeRule (view : TexelCopyTextureInfo) (t : Texture) (side : CopySide) (size : Extent3d) : Type 0 where
+  pub goes-on : RangeLaws view t size → rangeChecked view t side size ≡ GoOn (copyExtent t size) (arrayLayerCount t size)
+  pub went-on :
+      (extent : CopyExtent) (layers : ℕ) → rangeChecked view t side size ≡ GoOn extent layers
+      → RangeLaws view t size × (copyExtent t size ≡ extent) × (arrayLayerCount t size ≡ layers)
+
+abbrev pub EveryRange : Type 0
+EveryRange = (view : TexelCopyTextureInfo) (t : Texture) (side : CopySide) (size : Extent3d) → RangeRule view t side size

@@ -1,0 +1,12 @@
+-- `validate_copy_within_same_texture` meets its contract.
+-- Assumes nothing.
+use borrow.Author.Needs.{needs}
+use Rattle.checks.proofs.Rules.{flag-lines}
+use Rattle.selectors.specs.Selector.{sameTextureChecked}
+use Rattle.selectors.proofs.validate_copy_within_same_texture.Statement.{statement}
+use Rattle.selectors.proofs.validate_copy_within_same_texture.Tie as tie
+
+pub validate-copy-within-same-texture-spec : {M : Type 1} → statement M
+unfolding sameTextureChecked
+validate-copy-within-same-texture-spec =
+    tie.close (tie.spec (λ c κs. search needs) (λ c. search flag-lines depth 8) (λ c. search flag-lines depth 8))

@@ -1,0 +1,5 @@
+pub mod Sizes
+pub mod TextureRanges
+pub mod Linears
+pub mod Subresources
+pub mod Tables

@@ -1,0 +1,68 @@
+-- Level sizes and level counts against the standard's.
+-- Assumes nothing.
+use mathlib.Core.Path.{_≡_, refl, sym, ap, _∙_}
+use mathlib.Core.Bool.{Bool, true, false}
+use Prim.Native.Nat.{ℕ, _+_, _-_, _*_, _/_, _%_, _^_, _<_, max}
+use native.Mathlib.Omega.{arith}
+use native.Mathlib.Nat.{pos-of-ne-zero, div-add-mod', pow-zero}
+use lib.Dec.{eqb, ltb}
+use borrow.Author.Tests.{eqb-true, eqb-false, ltb-true, ltb-false}
+use Rattle.checks.specs.Checks.{pick}
+use Rattle.measures.specs.Measure.{roundedUp, blocksOf, physicalSize}
+use Rattle.measures.proofs.Rounding.{blocks-of-whole, blocks-of-rest}
+use Rattle.measures.specs.declared.Extent3d.{Extent3d}
+use Rattle.levels.specs.declared.TextureDimension.{TextureDimension}
+use Rattle.levels.specs.declared.TextureDimension.the-variants.{D1, D2, D3}
+use Rattle.levels.specs.Level.{dimensionOf, halved, sideAt, mipLevelSize, maxMipLevels}
+use Rattle.levels.proofs.Halving.{level-laws, reaches, reached}
+use Rattle.formats.specs.Sheet.{blockWidth, blockHeight}
+use Rattle.formats.proofs.Rows.{every-format}
+use Rattle.records.specs.declared.Texture.{Texture}
+use Rattle.records.specs.Extents.{logicalExtent, physicalExtent}
+use Rattle.webgpu.specs.WebGpu.{halfAt, extent, logicalSize, toBlock, physicalSubresourceSize, MaxMipLevelCount}
+use Rattle.webgpu.specs.Agreement.{LogicalExtents, PhysicalExtents, LevelCounts}
+
+half-is : (n level : ℕ) → sideAt n level ≡ halfAt n level
+unfolding sideAt
+half-is n level = ap (λ (k : ℕ). max 1 k) (level-laws .halves n level)
+
+size-is : (d : TextureDimension) (e : Extent3d) (level : ℕ) → mipLevelSize d e level ≡ logicalSize d e level
+unfolding mipLevelSize logicalSize
+size-is D1 e level = rw (half-is (e .width) level)
+size-is D2 e level = rw (half-is (e .width) level, half-is (e .height) level)
+size-is D3 e level = rw (half-is (e .width) level, half-is (e .height) level, half-is (e .«depth_or_array_layers») level)
+
+pub logical-extents : LogicalExtents
+unfolding logicalExtent
+logical-extents t level = size-is (dimensionOf (t .dimension)) (t .size) level
+
+-- rounding up by blocks is rounding to the next multiple
+block-is : (n block : ℕ) → 0 < block → roundedUp n block ≡ toBlock n block
+unfolding roundedUp toBlock
+block-is n block pos = go (eqb (n % block) 0) refl
+  where
+    go : (t : Bool) → eqb (n % block) 0 ≡ t → blocksOf n block * block ≡ pick t n ((n / block + 1) * block)
+    go true e =
+        let z = eqb-true (n % block) 0 e in
+        ap (λ (k : ℕ). k * block) (blocks-of-whole block pos n z) ∙ omega (arith, div-add-mod' n block)
+    go false e = ap (λ (k : ℕ). k * block) (blocks-of-rest block pos n (pos-of-ne-zero (eqb-false (n % block) 0 e)))
+
+pub physical-extents : PhysicalExtents
+unfolding physicalExtent physicalSize physicalSubresourceSize
+physical-extents t level =
+    let f = every-format (t .format) in
+    rw (logical-extents t level)
+    (rw (block-is (logicalSize (dimensionOf (t .dimension)) (t .size) level .width) (blockWidth (t .format)) (f .width-some), block-is (logicalSize (dimensionOf (t .dimension)) (t .size) level .height) (blockHeight (t .format)) (f .height-some)))
+
+-- the last level is reached, and the next is not
+pub level-counts : LevelCounts
+level-counts n pos =
+    let first = level-laws .counted n 0 pos .1 (reaches n 0 (omega (arith, pow-zero 2))) in
+    let reach = reached n (maxMipLevels n - 1) (level-laws .counted n (maxMipLevels n - 1) pos .0 (omega arith)) in
+    record { some = first; reached = reach; last = go (ltb n (2 ^ maxMipLevels n)) refl }
+  where
+    go : (t : Bool) → ltb n (2 ^ maxMipLevels n) ≡ t → n < 2 ^ maxMipLevels n
+    go true e = ltb-true n (2 ^ maxMipLevels n) e
+    go false e =
+        let more = level-laws .counted n (maxMipLevels n) pos .1 (reaches n (maxMipLevels n) (ltb-false n (2 ^ maxMipLevels n) e)) in
+        absurd (omega arith)

@@ -1,0 +1,213 @@
+-- Formats, aspects and alignment against the standard's tables.
+-- Assumes nothing.
+use mathlib.Core.Path.{_≡_, refl, sym, ap, _∙_}
+use mathlib.Core.Bool.{Bool, true, false, not, _&&_, _||_}
+use mathlib.Core.List.{List, [], _∷_}
+use Prim.Native.Nat.{ℕ, _%_, _<_}
+use native.Mathlib.Omega.{arith}
+use lib.Dec.{eqb, ltb}
+use lib.ListN.{length}
+use borrow.Author.Tests.{ltb-true, eqb-true, eqb-false, eq-eqb, ne-eqb, not-false}
+use Rattle.checks.specs.Checks.{pick, every, stop-if}
+use Rattle.checks.proofs.Rules.{both-true, all-true, not-both, went-past, goes-past}
+use Rattle.checks.proofs.Tables.{everyBelow, at-below}
+use Rattle.measures.specs.declared.OptionU32.{OptionU32}
+use Rattle.measures.specs.declared.OptionU32.the-variants.{Given, Absent}
+use Rattle.measures.specs.Measure.{multiple, orElse}
+use Rattle.flags.specs.Flags.{holds, met, isOne}
+use Rattle.formats.specs.declared.TextureAspect.{TextureAspect}
+use Rattle.formats.specs.declared.TextureAspect.the-variants.{All, StencilOnly, DepthOnly, Plane0, Plane1, Plane2}
+use Rattle.formats.specs.Sheet.{formats, rowOf, aspectsOf, isFormat, isDepthStencil, isMultiPlanar}
+use Rattle.formats.specs.Aspects.{askedOf, chosenAspects, bytesOf, blockCopySize}
+use Rattle.refusals.specs.declared.TransferError.{TransferError}
+use Rattle.refusals.specs.declared.TransferError.the-variants as E
+use Rattle.refusals.specs.declared.Checked.{Checked}
+use Rattle.refusals.specs.declared.Checked.the-variants as C
+use Rattle.records.specs.declared.Texture.{Texture}
+use Rattle.records.specs.declared.TexelCopyBufferLayout.{TexelCopyBufferLayout}
+use Rattle.linear.specs.Linear.{blockBytes}
+use Rattle.format_rules.specs.Rules.{isDepthOnly, srcFormat, dstFormat, offsetAlignment, isUnalignedRow, layoutChecked, textureBufferCopy}
+use Rattle.webgpu.specs.WebGpu.{depthStencilFormats, inTable, aspectAllowed, AlignedLayout, TextureBufferCopy}
+use Rattle.webgpu.specs.Agreement.{formatRule, InStandard, BufferCopies}
+
+-- ---- the tables, by one test that is computed of every format and aspect
+
+goesB : Checked → Bool
+goesB C.GoOn = true
+goesB (C.Refused e) = false
+
+isGivenB : OptionU32 → Bool
+isGivenB (Given n) = true
+isGivenB Absent = false
+
+abbrev same : Bool → Bool → Bool
+same true t = t
+same false t = not t
+
+-- of an aspect that the format has: the format's rule and one aspect are what the standard allows, and but for depth-stencil a
+-- block has bytes
+agrees : Bool → TextureAspect → ℕ → Bool
+agrees reads aspect format =
+    eqb (chosenAspects format aspect) 0
+    || (same (goesB (formatRule reads format aspect) && isOne (chosenAspects format aspect)) (aspectAllowed reads format aspect)
+    && (isDepthStencil format || isGivenB (blockCopySize format aspect)))
+
+all-agree : (reads : Bool) (aspect : TextureAspect) → everyBelow (agrees reads aspect) 21 ≡ true
+unfolding agrees goesB isGivenB formats rowOf aspectsOf isDepthStencil askedOf chosenAspects bytesOf blockCopySize met holds isOne stop-if srcFormat dstFormat isDepthOnly depthStencilFormats inTable aspectAllowed
+all-agree true All = refl
+all-agree true StencilOnly = refl
+all-agree true DepthOnly = refl
+all-agree true Plane0 = refl
+all-agree true Plane1 = refl
+all-agree true Plane2 = refl
+all-agree false All = refl
+all-agree false StencilOnly = refl
+all-agree false DepthOnly = refl
+all-agree false Plane0 = refl
+all-agree false Plane1 = refl
+all-agree false Plane2 = refl
+
+-- ---- what the test says of one format and aspect
+
+same-is : (s t : Bool) → same s t ≡ true → s ≡ t
+same-is true t e = sym e
+same-is false true e = e
+same-is false false e = refl
+
+or-rest : (s t : Bool) → (s || t) ≡ true → s ≡ false → t ≡ true
+or-rest true t e f = let z : _≡_ {A = ℕ} 0 1 = cc in absurd (omega arith)
+or-rest false t e f = e
+
+record Agrees (reads : Bool) (format : ℕ) (aspect : TextureAspect) : Type 0 where
+  allowed : (goesB (formatRule reads format aspect) && isOne (chosenAspects format aspect)) ≡ aspectAllowed reads format aspect
+  bytes : isDepthStencil format ≡ false → isGivenB (blockCopySize format aspect) ≡ true
+
+below-nv12 : (format : ℕ) → isFormat format ≡ true → isMultiPlanar format ≡ false → format < 21
+unfolding isFormat isMultiPlanar formats
+below-nv12 format known no-planes =
+    let listed : format < 22 = ltb-true format 22 known in
+    let other = eqb-false format 21 no-planes in
+    omega arith
+
+agreed : (reads : Bool) (format : ℕ) (aspect : TextureAspect) → InStandard format aspect → Agrees reads format aspect
+unfolding agrees
+agreed reads format aspect s =
+    let test = at-below (agrees reads aspect) 21 (all-agree reads aspect) format (below-nv12 format (s .known) (s .no-planes)) in
+    let parts = both-true (same (goesB (formatRule reads format aspect) && isOne (chosenAspects format aspect)) (aspectAllowed reads format aspect)) (isDepthStencil format || isGivenB (blockCopySize format aspect)) (or-rest (eqb (chosenAspects format aspect) 0) _ test (s .chosen)) in
+    record { allowed = same-is _ _ (parts .0); bytes = λ e. or-rest (isDepthStencil format) _ (parts .1) e }
+
+goes-of : (c : Checked) → goesB c ≡ true → c ≡ C.GoOn
+unfolding goesB
+goes-of C.GoOn e = refl
+goes-of (C.Refused why) e = let z : _≡_ {A = ℕ} 0 1 = cc in absurd (omega arith)
+
+goes-by : (c : Checked) → c ≡ C.GoOn → goesB c ≡ true
+unfolding goesB
+goes-by c e = rw e
+
+-- ---- alignment
+
+given-same : (o : OptionU32) → isGivenB o ≡ true → orElse o 1 ≡ orElse o 0
+unfolding isGivenB orElse
+given-same (Given n) e = refl
+given-same Absent e = let z : _≡_ {A = ℕ} 0 1 = cc in absurd (omega arith)
+
+rest-of : (n m : ℕ) → multiple n m ≡ true → n % m ≡ 0
+unfolding multiple
+rest-of n m e = eqb-true (n % m) 0 e
+
+no-rest : (n m : ℕ) → n % m ≡ 0 → multiple n m ≡ true
+unfolding multiple
+no-rest n m e = eq-eqb (n % m) 0 e
+
+row-of : (o : OptionU32) → isUnalignedRow o ≡ false → (n : ℕ) → o ≡ Given n → n % 256 ≡ 0
+unfolding isUnalignedRow
+row-of (Given m) e n q = let s : m ≡ n = cc in rw (← s) (rest-of m 256 (not-false (multiple m 256) e))
+row-of Absent e n q = let z : _≡_ {A = ℕ} 0 1 = cc in absurd (omega arith)
+
+row-by : (o : OptionU32) → ((n : ℕ) → o ≡ Given n → n % 256 ≡ 0) → isUnalignedRow o ≡ false
+unfolding isUnalignedRow
+row-by (Given m) h = rw (no-rest m 256 (h m refl))
+row-by Absent h = refl
+
+module _ (reads : Bool) (format : ℕ) (aspect : TextureAspect) (layout : TexelCopyBufferLayout) (g : Agrees reads format aspect) where
+  abbrev alignment : ℕ
+  alignment = offsetAlignment format aspect
+
+  at-four : isDepthStencil format ≡ true → alignment ≡ 4
+  unfolding offsetAlignment
+  at-four e = rw e
+
+  at-bytes : isDepthStencil format ≡ false → alignment ≡ blockBytes format aspect
+  unfolding offsetAlignment blockBytes
+  at-bytes e = rw e (given-same (blockCopySize format aspect) (g .bytes e))
+
+  aligned-of : multiple (layout .offset) alignment ≡ true → isUnalignedRow (layout .«bytes_per_row») ≡ false → AlignedLayout format (blockBytes format aspect) layout
+  aligned-of o r =
+      record {
+        depth-stencil = λ e. rw (← at-four e) (rest-of (layout .offset) alignment o);
+        other = λ e. rw (← at-bytes e) (rest-of (layout .offset) alignment o);
+        row = row-of (layout .«bytes_per_row») r;
+      }
+
+  offset-by : AlignedLayout format (blockBytes format aspect) layout → (s : Bool) → isDepthStencil format ≡ s → multiple (layout .offset) alignment ≡ true
+  offset-by l true e = no-rest (layout .offset) alignment (rw (at-four e) (l .depth-stencil e))
+  offset-by l false e = no-rest (layout .offset) alignment (rw (at-bytes e) (l .other e))
+
+-- ---- the rule
+
+no-refusal : {e : TransferError} → C.Refused e ≡ C.GoOn → ⊥
+no-refusal h = let z : _≡_ {A = ℕ} 0 1 = cc in omega arith
+
+off : (s t : Bool) → (s ≡ true → t ≡ false) → (s && t) ≡ false
+off true t h = h refl
+off false t h = refl
+
+module _ (reads aligned : Bool) (t : Texture) (aspect : TextureAspect) (layout : TexelCopyBufferLayout) (s : InStandard (t .format) aspect) where
+  abbrev chosen : ℕ
+  chosen = chosenAspects (t .format) aspect
+
+  abbrev A : ℕ
+  A = offsetAlignment (t .format) aspect
+
+  abbrev row-line : Checked
+  row-line = stop-if (aligned && isUnalignedRow (layout .«bytes_per_row»)) (C.Refused E.UnalignedBytesPerRow) C.GoOn
+
+  abbrev offset-line : Checked
+  offset-line = stop-if (aligned && not (multiple (layout .offset) A)) (C.Refused (E.UnalignedBufferOffset (layout .offset))) row-line
+
+  abbrev aspect-line : Checked
+  aspect-line = stop-if (not (isOne chosen)) (C.Refused E.CopyAspectNotOne) offset-line
+
+  g : Agrees reads (t .format) aspect
+  g = agreed reads (t .format) aspect s
+
+  standard : formatRule reads (t .format) aspect ≡ C.GoOn → textureBufferCopy aspect chosen t layout aligned ≡ C.GoOn → TextureBufferCopy reads aligned t aspect (blockBytes (t .format) aspect) layout
+  unfolding textureBufferCopy layoutChecked
+  standard f e =
+      let samples = went-past Checked (not (eqb (t .«sample_count») 1)) (C.Refused (E.InvalidSampleCount (t .«sample_count»))) aspect-line C.GoOn e no-refusal in
+      let one = went-past Checked (not (isOne chosen)) (C.Refused E.CopyAspectNotOne) offset-line C.GoOn (samples .1) no-refusal in
+      let offset = went-past Checked (aligned && not (multiple (layout .offset) A)) (C.Refused (E.UnalignedBufferOffset (layout .offset))) row-line C.GoOn (one .1) no-refusal in
+      let row = went-past Checked (aligned && isUnalignedRow (layout .«bytes_per_row»)) (C.Refused E.UnalignedBytesPerRow) C.GoOn C.GoOn (offset .1) no-refusal in
+      record {
+        one-sample = eqb-true (t .«sample_count») 1 (not-false _ (samples .0));
+        allowed = sym (g .allowed) ∙ rw (goes-by (formatRule reads (t .format) aspect) f, not-false (isOne chosen) (one .0));
+        layout-aligned = λ a. aligned-of reads (t .format) aspect layout g (not-false (multiple (layout .offset) A) (not-both aligned _ (offset .0) a)) (not-both aligned _ (row .0) a);
+      }
+
+  both : TextureBufferCopy reads aligned t aspect (blockBytes (t .format) aspect) layout → (goesB (formatRule reads (t .format) aspect) ≡ true) × (isOne chosen ≡ true)
+  both v = both-true (goesB (formatRule reads (t .format) aspect)) (isOne chosen) (g .allowed ∙ v .allowed)
+
+  ours : TextureBufferCopy reads aligned t aspect (blockBytes (t .format) aspect) layout → textureBufferCopy aspect chosen t layout aligned ≡ C.GoOn
+  unfolding textureBufferCopy layoutChecked
+  ours v =
+      goes-past Checked (not (eqb (t .«sample_count») 1)) (C.Refused (E.InvalidSampleCount (t .«sample_count»))) aspect-line (rw (eq-eqb (t .«sample_count») 1 (v .one-sample)))
+      ∙ goes-past Checked (not (isOne chosen)) (C.Refused E.CopyAspectNotOne) offset-line (rw (both v .1))
+      ∙ goes-past Checked (aligned && not (multiple (layout .offset) A)) (C.Refused (E.UnalignedBufferOffset (layout .offset))) row-line (off aligned _ (λ a. rw (offset-by reads (t .format) aspect layout g (v .layout-aligned a) (isDepthStencil (t .format)) refl)))
+      ∙ goes-past Checked (aligned && isUnalignedRow (layout .«bytes_per_row»)) (C.Refused E.UnalignedBytesPerRow) C.GoOn (off aligned _ (λ a. row-by (layout .«bytes_per_row») (v .layout-aligned a .row)))
+
+pub buffer-copies : BufferCopies
+buffer-copies reads aligned t aspect layout s = (
+  λ e. standard reads aligned t aspect layout s (e .0) (e .1),
+  λ v. (goes-of (formatRule reads (t .format) aspect) (both reads aligned t aspect layout s v .0), ours reads aligned t aspect layout s v),
+)

@@ -1,0 +1,2 @@
+pub mod WebGpu
+pub mod Agreement
