@@ -5,7 +5,7 @@ use Rattle.checks.proofs.Rules.{flag-lines}
 use Rattle.refusals.specs.declared.TransferError.{TransferError}
 use Rattle.refusals.specs.declared.Checked.{Checked}
 use Rattle.refusals.specs.declared.Checked.the-variants as C
-use Rattle.refusals.specs.Answers.{after}
+use Rattle.refusals.specs.Answers.{after, whyOf}
 
 module _ (R : Type 0) (refused : TransferError → R) (rest x : R) (r m : Checked) where
   pub after-goes : r ≡ m → r ≡ C.GoOn → x ≡ rest → x ≡ after m refused rest
@@ -16,11 +16,19 @@ module _ (R : Type 0) (refused : TransferError → R) (rest x : R) (r m : Checke
   unfolding after
   after-stops e p q h = rw (sym p ∙ q) h
 
+  -- the refusal was handed up by `why`
+  pub after-hands-up : (d e : TransferError) → r ≡ m → r ≡ C.Refused e → d ≡ whyOf r → x ≡ refused d → x ≡ after m refused rest
+  unfolding after whyOf
+  after-hands-up d e p q h k = rw (sym p ∙ q) (k ∙ ap refused (h ∙ ap whyOf q))
+
 -- a refusal that a function made
 pub refused-alike : (d e : TransferError) → d ≡ e → C.Refused d ≡ C.Refused e
 refused-alike d e p = ap C.Refused p
 
 pub ruleset answers = (flag-lines, after-goes, after-stops, refused-alike)
+
+-- the same, for functions that take answers by `let .. else`
+pub ruleset handed = (flag-lines, after-goes, after-hands-up)
 
 -- the other way: what an answer that is no refusal says of the rule
 pub went-on : (R : Type 0) (refused : TransferError → R) (rest x : R) (m : Checked) → after m refused rest ≡ x → ((e : TransferError) → refused e ≡ x → ⊥) → (m ≡ C.GoOn) × (rest ≡ x)

@@ -1,0 +1,10 @@
+-- `size_or` meets its contract.
+-- Assumes nothing.
+use borrow.Author.Needs.{needs}
+use Rattle.buffer_copies.specs.BufferCopies.{sizeOf}
+use Rattle.buffer_copies.proofs.size_or.Statement.{statement}
+use Rattle.buffer_copies.proofs.size_or.Tie as tie
+
+pub size-or-spec : {M : Type 1} → statement M
+unfolding sizeOf
+size-or-spec = tie.close (tie.spec (λ c. search needs) (λ c. search needs) (λ c. cc) (λ c. cc))

@@ -1,0 +1,169 @@
+-- Copies between a buffer and a texture: the checks in their order, and the plan.
+use Prim.Native.Nat.{ℕ, _+_}
+use mathlib.Core.Bool.{Bool, true, false, _&&_, _||_, not}
+use lib.Dec.{eqb, leb}
+use Rattle.checks.specs.Checks.{pick, stop-if, _$_}
+use Rattle.measures.specs.declared.Extent3d.{Extent3d}
+use Rattle.flags.specs.Flags.{holds}
+use Rattle.formats.specs.Sheet.{isDepthStencil}
+use Rattle.refusals.specs.declared.CopySide.{CopySide}
+use Rattle.refusals.specs.declared.CopySide.the-variants.{Source, Destination}
+use Rattle.refusals.specs.declared.DownlevelFlags.the-variants.{DepthTextureAndBufferCopies}
+use Rattle.refusals.specs.declared.TransferError.{TransferError}
+use Rattle.refusals.specs.declared.TransferError.the-variants as E
+use Rattle.refusals.specs.Answers.{after}
+use Rattle.records.specs.declared.Buffer.{Buffer}
+use Rattle.records.specs.declared.Device.{Device}
+use Rattle.records.specs.declared.Texture.{Texture}
+use Rattle.records.specs.declared.TexelCopyTextureInfo.{TexelCopyTextureInfo}
+use Rattle.records.specs.declared.TexelCopyBufferLayout.{TexelCopyBufferLayout}
+use Rattle.records.specs.Bounds.{bufferChecked, textureChecked}
+use Rattle.ranges.specs.declared.CopyExtent.{CopyExtent}
+use Rattle.ranges.specs.declared.RangeChecked.{RangeChecked}
+use Rattle.ranges.specs.declared.RangeChecked.the-variants as R
+use Rattle.ranges.specs.Range.{rangeChecked}
+use Rattle.linear.specs.declared.LinearData.{LinearData}
+use Rattle.linear.specs.declared.LinearChecked.{LinearChecked}
+use Rattle.linear.specs.declared.LinearChecked.the-variants as L
+use Rattle.linear.specs.Linear.{linearData}
+use Rattle.format_rules.specs.Rules.{srcFormat, dstFormat, textureBufferCopy}
+use Rattle.selectors.specs.declared.TextureSelector.{TextureSelector}
+use Rattle.selectors.specs.declared.TextureCopyBase.{TextureCopyBase}
+use Rattle.selectors.specs.declared.SelectorChecked.{SelectorChecked}
+use Rattle.selectors.specs.declared.SelectorChecked.the-variants as S
+use Rattle.selectors.specs.Selector.{selectorChecked}
+use Rattle.init.specs.declared.TextureInitRange.{TextureInitRange}
+use Rattle.init.specs.declared.BufferInitRanges.{BufferInitRanges}
+use Rattle.init.specs.declared.OptionRange.the-variants.{Absent}
+use Rattle.init.specs.Init.{srcTextureRange, dstTextureRange, bufferInit}
+use Rattle.buffer_texture.specs.declared.BufferTextureCopy.{BufferTextureCopy}
+use Rattle.buffer_texture.specs.declared.CopyRanges.{CopyRanges}
+use Rattle.buffer_texture.specs.declared.CopyRanges.the-variants as N
+use Rattle.buffer_texture.specs.declared.BufferTexturePlan.{BufferTexturePlan}
+use Rattle.buffer_texture.specs.declared.BufferTexturePlanned.{BufferTexturePlanned}
+use Rattle.buffer_texture.specs.declared.BufferTexturePlanned.the-variants as P
+
+-- ---- a rule's answer: its refusal handed up, or the rest with what it gave
+
+unfoldable pub after-range : RangeChecked → (CopyExtent → ℕ → BufferTexturePlanned) → BufferTexturePlanned
+after-range (R.GoOn extent layers) rest = rest extent layers
+after-range (R.Refused e) rest = P.Refused e
+
+unfoldable pub after-selector : SelectorChecked → (TextureCopyBase → BufferTexturePlanned) → BufferTexturePlanned
+after-selector (S.GoOn selector base) rest = rest base
+after-selector (S.Refused e) rest = P.Refused e
+
+unfoldable pub after-linear : LinearChecked → (LinearData → BufferTexturePlanned) → BufferTexturePlanned
+after-linear (L.GoOn span) rest = rest span
+after-linear (L.Refused e) rest = P.Refused e
+
+unfoldable pub rangeWhy : RangeChecked → TransferError
+rangeWhy (R.GoOn extent layers) = E.SizeOverflow
+rangeWhy (R.Refused e) = e
+
+unfoldable pub selectorWhy : SelectorChecked → TransferError
+selectorWhy (S.GoOn selector base) = E.SizeOverflow
+selectorWhy (S.Refused e) = e
+
+unfoldable pub linearWhy : LinearChecked → TransferError
+linearWhy (L.GoOn span) = E.SizeOverflow
+linearWhy (L.Refused e) = e
+
+-- ---- the plan
+
+unfoldable pub isEmpty : Extent3d → Bool
+isEmpty size = eqb (size .width) 0 || (eqb (size .height) 0 || eqb (size .«depth_or_array_layers») 0)
+
+unfoldable pub firstRegion : TexelCopyBufferLayout → TextureCopyBase → CopyExtent → BufferTextureCopy
+firstRegion layout base extent =
+    record {
+      offset = layout .offset;
+      «bytes_per_row» = layout .«bytes_per_row»;
+      «rows_per_image» = layout .«rows_per_image»;
+      base = base;
+      size = extent;
+    }
+
+-- the texture's range, then the buffer's; none where the copy is empty
+unfoldable pub rangesOf : Bool → TextureInitRange → BufferInitRanges → CopyRanges
+rangesOf empty texture buffer = pick empty N.Absent (N.Given texture buffer)
+
+-- a region for each layer, each an image stride on; none where the copy is empty
+unfoldable pub planOf : TexelCopyBufferLayout → Extent3d → CopyExtent → ℕ → TextureCopyBase → LinearData → CopySide → TextureInitRange → BufferTexturePlan
+planOf layout size extent layers base span side texture =
+    record {
+      region = firstRegion layout base extent;
+      stride = span .«image_stride»;
+      left = pick (isEmpty size) 0 layers;
+      ranges = rangesOf (isEmpty size) texture (bufferInit (layout .offset) side (span .«bytes_in_copy») (span .«is_contiguous»));
+      «bytes_checked» = span .«bytes_in_copy»;
+    }
+
+-- 34: a depth-stencil format without the fact
+unfoldable pub lacksDepthFact : Device → ℕ → Bool
+lacksDepthFact device format = isDepthStencil format && not (device .«depth_texture_and_buffer_copies»)
+
+-- ---- buffer to texture
+
+-- module 4; 34
+unfoldable pub uploadPlaced : Device → Buffer → TexelCopyBufferLayout → Texture → TexelCopyTextureInfo → Extent3d → CopyExtent → ℕ → TextureCopyBase → BufferTexturePlanned
+uploadPlaced device b layout t view size extent layers base =
+    after-linear (linearData layout (t .format) (view .aspect) (b .size) Source size) λ span.
+    stop-if (lacksDepthFact device (t .format)) (P.Refused (E.MissingDownlevelFlags DepthTextureAndBufferCopies)) $
+    P.Plan (planOf layout size extent layers base span Source (dstTextureRange view t size))
+
+-- 5; 6; 31 or 32; 35; 28; 14; 20
+unfoldable pub uploadAllowed : Device → Buffer → TexelCopyBufferLayout → Texture → TexelCopyTextureInfo → Extent3d → CopyExtent → ℕ → TextureCopyBase → BufferTexturePlanned
+uploadAllowed device b layout t view size extent layers base =
+    stop-if (not (holds (b .usage .0) 4)) (P.Refused (E.MissingBufferUsage Source)) $
+    stop-if (not (holds (t .usage .0) 2)) (P.Refused (E.MissingTextureUsage Destination)) $
+    after (dstFormat (t .format) (view .aspect)) P.Refused $
+    after (textureBufferCopy (view .aspect) (base .aspect .0) t layout true) P.Refused $
+    uploadPlaced device b layout t view size extent layers base
+
+-- module 3; 12
+unfoldable pub uploadRanged : Device → Buffer → TexelCopyBufferLayout → Texture → TexelCopyTextureInfo → Extent3d → BufferTexturePlanned
+uploadRanged device b layout t view size =
+    after-range (rangeChecked view t Destination size) λ extent layers.
+    after-selector (selectorChecked view t size) λ base.
+    uploadAllowed device b layout t view size extent layers base
+
+-- records: 3 source, 2 destination
+unfoldable pub bufferToTexture : Device → Buffer → TexelCopyBufferLayout → Texture → TexelCopyTextureInfo → Extent3d → BufferTexturePlanned
+bufferToTexture device b layout t view size =
+    after (bufferChecked b Source) P.Refused $
+    after (textureChecked t Destination) P.Refused $
+    uploadRanged device b layout t view size
+
+-- ---- texture to buffer
+
+-- module 4; 34; 5
+unfoldable pub downloadPlaced : Device → Buffer → TexelCopyBufferLayout → Texture → TexelCopyTextureInfo → Extent3d → CopyExtent → ℕ → TextureCopyBase → BufferTexturePlanned
+downloadPlaced device b layout t view size extent layers base =
+    after-linear (linearData layout (t .format) (view .aspect) (b .size) Destination size) λ span.
+    stop-if (lacksDepthFact device (t .format)) (P.Refused (E.MissingDownlevelFlags DepthTextureAndBufferCopies)) $
+    stop-if (not (holds (b .usage .0) 8)) (P.Refused (E.MissingBufferUsage Destination)) $
+    P.Plan (planOf layout size extent layers base span Destination (srcTextureRange view t size))
+
+-- 6; 37; 29 or 30; 35; 28; 14; 20
+unfoldable pub downloadAllowed : Device → Buffer → TexelCopyBufferLayout → Texture → TexelCopyTextureInfo → Extent3d → CopyExtent → ℕ → TextureCopyBase → BufferTexturePlanned
+downloadAllowed device b layout t view size extent layers base =
+    stop-if (not (holds (t .usage .0) 1)) (P.Refused (E.MissingTextureUsage Source)) $
+    stop-if (leb (t .«mip_level_count») (view .«mip_level»)) (P.Refused (E.InvalidMipLevel (view .«mip_level») (t .«mip_level_count»))) $
+    after (srcFormat (t .format) (view .aspect)) P.Refused $
+    after (textureBufferCopy (view .aspect) (base .aspect .0) t layout true) P.Refused $
+    downloadPlaced device b layout t view size extent layers base
+
+-- module 3; 12
+unfoldable pub downloadRanged : Device → Buffer → TexelCopyBufferLayout → Texture → TexelCopyTextureInfo → Extent3d → BufferTexturePlanned
+downloadRanged device b layout t view size =
+    after-range (rangeChecked view t Source size) λ extent layers.
+    after-selector (selectorChecked view t size) λ base.
+    downloadAllowed device b layout t view size extent layers base
+
+-- records: 2 source, 3 destination
+unfoldable pub textureToBuffer : Device → Texture → TexelCopyTextureInfo → Buffer → TexelCopyBufferLayout → Extent3d → BufferTexturePlanned
+textureToBuffer device t view b layout size =
+    after (textureChecked t Source) P.Refused $
+    after (bufferChecked b Destination) P.Refused $
+    downloadRanged device b layout t view size

@@ -1,0 +1,9 @@
+pub mod Blocks
+pub mod Formats
+pub mod Accepted
+pub mod Sound
+pub mod Owners
+pub mod Asks
+pub mod Named
+pub mod Runs
+pub mod Claims
