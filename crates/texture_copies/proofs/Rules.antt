@@ -1,0 +1,118 @@
+-- How the checks of a copy between textures go on after a rule's answer was taken apart.
+-- Assumes nothing.
+use mathlib.Core.Path.{_≡_, refl, sym, ap, _∙_}
+use mathlib.Core.Bool.{Bool, true, not}
+use Prim.Native.Nat.{ℕ, _+_, _*_, _^_, _≤_, _<_}
+use native.Mathlib.Omega.{arith}
+use native.Mathlib.Nat.{mul-le-mul-left}
+use borrow.Author.Tests.{not-false}
+use Rattle.checks.specs.Checks.{pick}
+use Rattle.checks.proofs.Rules.{went-past}
+use Rattle.measures.specs.declared.Extent3d.{Extent3d}
+use Rattle.measures.specs.Measure.{physicalSize}
+use Rattle.formats.specs.declared.TextureAspect.{TextureAspect}
+use Rattle.formats.specs.declared.TextureAspect.the-variants.{All, StencilOnly, DepthOnly, Plane0, Plane1, Plane2}
+use Rattle.formats.specs.Aspects.{subsamplingFactor}
+use Rattle.levels.specs.declared.TextureDimension.{TextureDimension}
+use Rattle.levels.specs.declared.TextureDimension.the-variants.{D1, D2, D3}
+use Rattle.levels.specs.Level.{dimensionOf}
+use Rattle.refusals.specs.declared.CopySide.{CopySide}
+use Rattle.refusals.specs.declared.TransferError.{TransferError}
+use Rattle.refusals.specs.declared.TransferError.the-variants as E
+use Rattle.refusals.specs.declared.Checked.{Checked}
+use Rattle.refusals.specs.declared.Checked.the-variants as C
+use Rattle.refusals.proofs.Answers.{handed}
+use Rattle.records.specs.declared.Texture.{Texture}
+use Rattle.records.specs.declared.TexelCopyTextureInfo.{TexelCopyTextureInfo}
+use Rattle.records.specs.Limits.{maxSide3d}
+use Rattle.records.specs.Bounds.{textureInBounds, textureChecked}
+use Rattle.records.specs.Extents.{physicalExtent}
+use Rattle.records.proofs.Bounded.{texture-laws}
+use Rattle.ranges.specs.declared.CopyExtent.{CopyExtent}
+use Rattle.ranges.specs.declared.RangeChecked.{RangeChecked}
+use Rattle.ranges.specs.declared.RangeChecked.the-variants as R
+use Rattle.ranges.specs.Range.{layersOf, arrayLayerCount, rangeChecked}
+use Rattle.ranges.proofs.Accepted.{every-range}
+use Rattle.selectors.specs.declared.TextureSelector.{TextureSelector}
+use Rattle.selectors.specs.declared.TextureCopyBase.{TextureCopyBase}
+use Rattle.selectors.specs.declared.SelectorChecked.{SelectorChecked}
+use Rattle.selectors.specs.declared.SelectorChecked.the-variants as S
+use Rattle.texture_copies.specs.declared.CopyParts.{CopyParts}
+use Rattle.texture_copies.specs.declared.TextureRanges.{TextureRanges}
+use Rattle.texture_copies.specs.declared.TexturePlan.{TexturePlan}
+use Rattle.texture_copies.specs.declared.TexturePlanned.{TexturePlanned}
+use Rattle.texture_copies.specs.declared.TexturePlanned.the-variants as P
+use Rattle.texture_copies.specs.Plan.{after-range, after-selector, rangeWhy, selectorWhy, partCount}
+
+module _ (r m : RangeChecked) (k : CopyExtent → ℕ → TexturePlanned) where
+  pub range-goes : (x : TexturePlanned) (v : CopyExtent) (n : ℕ) → r ≡ m → r ≡ R.GoOn v n → x ≡ k v n → x ≡ after-range m k
+  unfolding after-range
+  range-goes x v n p q h = rw (sym p ∙ q) h
+
+  pub range-stops : (d e : TransferError) → r ≡ m → r ≡ R.Refused e → d ≡ rangeWhy r → P.Refused d ≡ after-range m k
+  unfolding after-range rangeWhy
+  range-stops d e p q h = rw (sym p ∙ q) (ap P.Refused (h ∙ ap rangeWhy q))
+
+module _ (r m : SelectorChecked) (k : TextureCopyBase → TexturePlanned) where
+  pub selector-goes : (x : TexturePlanned) (s : TextureSelector) (b : TextureCopyBase) → r ≡ m → r ≡ S.GoOn s b → x ≡ k b → x ≡ after-selector m k
+  unfolding after-selector
+  selector-goes x s b p q h = rw (sym p ∙ q) h
+
+  pub selector-stops : (d e : TransferError) → r ≡ m → r ≡ S.Refused e → d ≡ selectorWhy r → P.Refused d ≡ after-selector m k
+  unfolding after-selector selectorWhy
+  selector-stops d e p q h = rw (sym p ∙ q) (ap P.Refused (h ∙ ap selectorWhy q))
+
+-- a plan that a function gave
+pub planned-alike : (p q : TexturePlan) → p ≡ q → P.Plan p ≡ P.Plan q
+planned-alike p q e = ap P.Plan e
+
+pub ruleset planned = (handed, range-goes, range-stops, selector-goes, selector-stops, planned-alike)
+
+-- a plan by its parts
+pub built :
+    (a b : TextureCopyBase) {e e′ : CopyExtent} {p p′ : CopyParts} {n n′ : ℕ} {g g′ : TextureRanges} (k : ℕ) → e ≡ e′ → p ≡ p′ → n ≡ n′ → g ≡ g′
+    → _≡_ {A = TexturePlan}
+    (record { src = a; dst = b; size = e; parts = p; part = k; left = n; ranges = g })
+    (record { src = a; dst = b; size = e′; parts = p′; part = k; left = n′; ranges = g′ })
+built a b k h i j l = cc
+
+-- ---- what callees need
+
+no-refusal : {e : TransferError} → C.Refused e ≡ C.GoOn → ⊥
+no-refusal h = let z : _≡_ {A = ℕ} 0 1 = cc in omega arith
+
+pub texture-passed : (r : Checked) (t : Texture) (side : CopySide) → r ≡ textureChecked t side → r ≡ C.GoOn → textureInBounds t ≡ true
+unfolding textureChecked
+texture-passed r t side p q = not-false (textureInBounds t) (went-past Checked (not (textureInBounds t)) (C.Refused (E.InvalidTextureRecord side)) C.GoOn C.GoOn (sym p ∙ q) no-refusal .0)
+
+pub factor-some : (aspect : TextureAspect) → 0 < subsamplingFactor aspect
+unfolding subsamplingFactor
+factor-some All = omega arith
+factor-some StencilOnly = omega arith
+factor-some DepthOnly = omega arith
+factor-some Plane0 = omega arith
+factor-some Plane1 = omega arith
+factor-some Plane2 = omega arith
+
+few : (d : TextureDimension) (n : ℕ) → n ≤ maxSide3d → layersOf d n ≤ maxSide3d
+few D1 n h = omega arith
+few D2 n h = h
+few D3 n h = omega arith
+
+-- an accepted range goes over few layers
+pub layers-few :
+    (r : RangeChecked) (view : TexelCopyTextureInfo) (t : Texture) (side : CopySide) (size : Extent3d) (v : CopyExtent) (n : ℕ)
+    → textureInBounds t ≡ true → r ≡ rangeChecked view t side size → r ≡ R.GoOn v n → n < 2 ^ 16
+unfolding arrayLayerCount physicalExtent physicalSize
+layers-few r view t side size v n bound p q =
+    let l = every-range view t side size .went-on v n (sym p ∙ q) in
+    let deep = texture-laws t bound .level-sized (view .«mip_level») .depth-few in
+    let some = few (dimensionOf (t .dimension)) (size .«depth_or_array_layers») (omega (arith, l .0 .z-inside)) in
+    omega (arith, l .2)
+
+-- two parts of each of them are few
+pub regions-fit : (layers count : ℕ) → layers < 2 ^ 16 → count ≤ 2 → layers * count < 2 ^ 32
+regions-fit layers count h c = let p : layers * count ≤ layers * 2 = mul-le-mul-left layers c in omega arith
+
+pub counts-alike : (e e′ : Bool) (p p′ : CopyParts) (layers : ℕ) → e ≡ e′ → p ≡ p′ → pick e 0 (layers * partCount p) ≡ pick e′ 0 (layers * partCount p′)
+counts-alike e e′ p p′ layers h k = cc

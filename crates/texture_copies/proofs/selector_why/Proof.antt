@@ -1,0 +1,13 @@
+-- `selector_why` meets its contract.
+-- Assumes nothing.
+use mathlib.Core.Path.{sym, ap}
+use borrow.Author.Needs.{needs}
+use Rattle.texture_copies.specs.Plan.{selectorWhy}
+use Rattle.texture_copies.proofs.selector_why.Statement.{statement}
+use Rattle.texture_copies.proofs.selector_why.Tie as tie
+
+pub selector-why-spec : {M : Type 1} → statement M
+unfolding selectorWhy
+selector-why-spec =
+    tie.close
+    (tie.spec (λ c. search needs) (λ c. search needs) (λ c. sym (ap selectorWhy (c .enum-told .given .1))) (λ c. sym (ap selectorWhy (c .before .answer .given .1))))

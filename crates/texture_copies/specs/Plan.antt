@@ -1,0 +1,172 @@
+-- Copies from texture to texture: the checks in their order, and the plan.
+use Prim.Native.Nat.{ℕ, _*_, _/_, min}
+use mathlib.Core.Bool.{Bool, true, false, _&&_, _||_, not}
+use lib.Dec.{eqb}
+use Rattle.checks.specs.Checks.{pick, stop-if, _$_}
+use Rattle.measures.specs.declared.Extent3d.{Extent3d}
+use Rattle.measures.specs.declared.OptionU32.{OptionU32}
+use Rattle.measures.specs.declared.OptionU32.the-variants as O
+use Rattle.flags.specs.Flags.{holds}
+use Rattle.formats.specs.declared.TextureAspect.{TextureAspect}
+use Rattle.formats.specs.Sheet.{aspectsOf, isCombinedDepthStencil, isMultiPlanar, removeSrgb}
+use Rattle.formats.specs.Aspects.{aspectSpecificFormat, subsamplingFactor}
+use Rattle.refusals.specs.declared.CopySide.the-variants.{Source, Destination}
+use Rattle.refusals.specs.declared.TextureErrorDimension.the-variants.{X, Y}
+use Rattle.refusals.specs.declared.TransferError.{TransferError}
+use Rattle.refusals.specs.declared.TransferError.the-variants as E
+use Rattle.refusals.specs.declared.Checked.{Checked}
+use Rattle.refusals.specs.declared.Checked.the-variants as C
+use Rattle.refusals.specs.Answers.{after}
+use Rattle.records.specs.declared.Texture.{Texture}
+use Rattle.records.specs.declared.TexelCopyTextureInfo.{TexelCopyTextureInfo}
+use Rattle.records.specs.Bounds.{textureChecked}
+use Rattle.records.specs.Extents.{logicalExtent}
+use Rattle.ranges.specs.declared.CopyExtent.{CopyExtent}
+use Rattle.ranges.specs.declared.RangeChecked.{RangeChecked}
+use Rattle.ranges.specs.declared.RangeChecked.the-variants as R
+use Rattle.ranges.specs.Range.{subjectOf, dimensionChecked, rangeChecked}
+use Rattle.selectors.specs.declared.TextureCopyBase.{TextureCopyBase}
+use Rattle.selectors.specs.declared.SelectorChecked.{SelectorChecked}
+use Rattle.selectors.specs.declared.SelectorChecked.the-variants as S
+use Rattle.selectors.specs.Selector.{selectorChecked, sameTextureChecked}
+use Rattle.init.specs.declared.TextureInitRange.{TextureInitRange}
+use Rattle.init.specs.Init.{srcTextureRange, dstTextureRange}
+use Rattle.texture_copies.specs.declared.TextureSide.{TextureSide}
+use Rattle.texture_copies.specs.declared.CopyParts.{CopyParts}
+use Rattle.texture_copies.specs.declared.CopyParts.the-variants.{Whole, DepthStencil, Planes}
+use Rattle.texture_copies.specs.declared.TextureRanges.{TextureRanges}
+use Rattle.texture_copies.specs.declared.TextureRanges.the-variants as N
+use Rattle.texture_copies.specs.declared.TexturePlan.{TexturePlan}
+use Rattle.texture_copies.specs.declared.TexturePlanned.{TexturePlanned}
+use Rattle.texture_copies.specs.declared.TexturePlanned.the-variants as P
+
+-- ---- a rule's answer: its refusal handed up, or the rest with what it gave
+
+unfoldable pub after-range : RangeChecked → (CopyExtent → ℕ → TexturePlanned) → TexturePlanned
+after-range (R.GoOn extent layers) rest = rest extent layers
+after-range (R.Refused e) rest = P.Refused e
+
+unfoldable pub after-selector : SelectorChecked → (TextureCopyBase → TexturePlanned) → TexturePlanned
+after-selector (S.GoOn selector base) rest = rest base
+after-selector (S.Refused e) rest = P.Refused e
+
+unfoldable pub rangeWhy : RangeChecked → TransferError
+rangeWhy (R.GoOn extent layers) = E.SizeOverflow
+rangeWhy (R.Refused e) = e
+
+unfoldable pub selectorWhy : SelectorChecked → TransferError
+selectorWhy (S.GoOn selector base) = E.SizeOverflow
+selectorWhy (S.Refused e) = e
+
+-- ---- the plan
+
+unfoldable pub isEmpty : Extent3d → Bool
+isEmpty size = eqb (size .width) 0 || (eqb (size .height) 0 || eqb (size .«depth_or_array_layers») 0)
+
+-- each size is the lesser of both sides
+unfoldable pub lesser : CopyExtent → CopyExtent → CopyExtent
+lesser a b = record { width = min (a .width) (b .width); height = min (a .height) (b .height); depth = min (a .depth) (b .depth) }
+
+-- a combined depth-stencil format is copied as depth, then stencil; a planar one as plane 0, then plane 1
+unfoldable pub partsOf : ℕ → CopyParts
+partsOf format =
+    stop-if (isCombinedDepthStencil format) DepthStencil $
+    stop-if (isMultiPlanar format) Planes $
+    Whole
+
+unfoldable pub partCount : CopyParts → ℕ
+partCount Whole = 1
+partCount DepthStencil = 2
+partCount Planes = 2
+
+-- the source's range, then the destination's; none where the copy is empty
+unfoldable pub rangesOf : Bool → TextureInitRange → TextureInitRange → TextureRanges
+rangesOf empty src dst = pick empty N.Absent (N.Given src dst)
+
+-- a region for each part of each source layer; none where the copy is empty
+unfoldable pub planOf : TextureSide → TextureSide → Extent3d → CopyExtent → CopyExtent → ℕ → TextureCopyBase → TextureCopyBase → TexturePlan
+planOf src dst size srcExtent dstExtent layers srcBase dstBase =
+    record {
+      src = srcBase;
+      dst = dstBase;
+      size = lesser srcExtent dstExtent;
+      parts = partsOf (dst .texture .format);
+      part = 0;
+      left = pick (isEmpty size) 0 (layers * partCount (partsOf (dst .texture .format)));
+      ranges = rangesOf (isEmpty size) (srcTextureRange (src .view) (src .texture) size) (dstTextureRange (dst .view) (dst .texture) size);
+    }
+
+-- ---- the checks
+
+-- given, and this number
+unfoldable pub isThis : OptionU32 → ℕ → Bool
+isThis (O.Given n) m = eqb n m
+isThis O.Absent m = false
+
+-- a planar source into the format of its asked plane
+unfoldable pub isPlaneSplit : TextureSide → TextureSide → Bool
+isPlaneSplit src dst = isThis (aspectSpecificFormat (removeSrgb (src .texture .format)) (src .view .aspect)) (removeSrgb (dst .texture .format))
+
+-- formats differ beyond srgb
+unfoldable pub formatsDiffer : TextureSide → TextureSide → Bool
+formatsDiffer src dst = not (eqb (removeSrgb (src .texture .format)) (removeSrgb (dst .texture .format)))
+
+-- the side of a plane's level
+unfoldable pub planeWidth : TextureSide → ℕ
+planeWidth src = logicalExtent (src .texture) (src .view .«mip_level») .width / subsamplingFactor (src .view .aspect)
+
+unfoldable pub planeHeight : TextureSide → ℕ
+planeHeight src = logicalExtent (src .texture) (src .view .«mip_level») .height / subsamplingFactor (src .view .aspect)
+
+-- 9 against the plane, on X and Y
+unfoldable pub planeSides : TextureSide → Extent3d → ℕ → ℕ → Checked
+planeSides src size width height =
+    after (dimensionChecked (subjectOf (src .texture) Source) X (src .view .origin .x) (size .width) width false) C.Refused $
+    after (dimensionChecked (subjectOf (src .texture) Source) Y (src .view .origin .y) (size .height) height false) C.Refused $
+    C.GoOn
+
+-- for a planar source into a single-plane format
+unfoldable pub planeChecked : Bool → TextureSide → Extent3d → Checked
+planeChecked split src size =
+    stop-if (not split) C.GoOn $
+    planeSides src size (planeWidth src) (planeHeight src)
+
+-- 11 if one texture
+unfoldable pub withinOne : Bool → TextureSide → TextureSide → ℕ → Checked
+withinOne same src dst layers =
+    stop-if (not same) C.GoOn $
+    sameTextureChecked (src .view) (dst .view) (src .texture .format) layers
+
+-- 36; 6 source, destination
+unfoldable pub usable : TextureSide → TextureSide → Extent3d → CopyExtent → CopyExtent → ℕ → TextureCopyBase → TextureCopyBase → TexturePlanned
+usable src dst size srcExtent dstExtent layers srcBase dstBase =
+    stop-if (not (eqb (src .texture .«sample_count») (dst .texture .«sample_count»))) (P.Refused (E.SampleCountNotEqual (src .texture .«sample_count») (dst .texture .«sample_count»))) $
+    stop-if (not (holds (src .texture .usage .0) 1)) (P.Refused (E.MissingTextureUsage Source)) $
+    stop-if (not (holds (dst .texture .usage .0) 2)) (P.Refused (E.MissingTextureUsage Destination)) $
+    P.Plan (planOf src dst size srcExtent dstExtent layers srcBase dstBase)
+
+-- 12 source, destination; 26 (not for the split); 27
+unfoldable pub selectedCopy : Bool → TextureSide → TextureSide → Extent3d → CopyExtent → CopyExtent → ℕ → TexturePlanned
+selectedCopy split src dst size srcExtent dstExtent layers =
+    after-selector (selectorChecked (src .view) (src .texture) size) λ srcBase.
+    after-selector (selectorChecked (dst .view) (dst .texture) size) λ dstBase.
+    stop-if (not split && not (eqb (srcBase .aspect .0) (aspectsOf (src .texture .format)))) (P.Refused E.CopySrcMissingAspects) $
+    stop-if (not (eqb (dstBase .aspect .0) (aspectsOf (dst .texture .format)))) (P.Refused E.CopyDstMissingAspects) $
+    usable src dst size srcExtent dstExtent layers srcBase dstBase
+
+-- module 3 source, destination; 9 against the plane; 11
+unfoldable pub rangedCopy : Bool → Bool → TextureSide → TextureSide → Extent3d → TexturePlanned
+rangedCopy same split src dst size =
+    after-range (rangeChecked (src .view) (src .texture) Source size) λ srcExtent layers.
+    after-range (rangeChecked (dst .view) (dst .texture) Destination size) λ dstExtent dstLayers.
+    after (planeChecked split src size) P.Refused $
+    after (withinOne same src dst layers) P.Refused $
+    selectedCopy split src dst size srcExtent dstExtent layers
+
+-- records: 2 source, 2 destination; then 33
+unfoldable pub textureToTexture : ℕ → TextureSide → ℕ → TextureSide → Extent3d → TexturePlanned
+textureToTexture i src j dst size =
+    after (textureChecked (src .texture) Source) P.Refused $
+    after (textureChecked (dst .texture) Destination) P.Refused $
+    stop-if (formatsDiffer src dst && not (isPlaneSplit src dst)) (P.Refused (E.TextureFormatsNotCopyCompatible (src .texture .format) (dst .texture .format))) $
+    rangedCopy (eqb i j) (isPlaneSplit src dst) src dst size
