@@ -1,62 +1,31 @@
 -- How the checks of a copy between a buffer and a texture go on after a rule's answer was taken apart.
 -- Assumes nothing.
 use mathlib.Core.Path.{_≡_, refl, sym, ap, _∙_}
-use mathlib.Core.Bool.{Bool, true, not}
+use mathlib.Core.Bool.{Bool, true}
 use Prim.Native.Nat.{ℕ, _+_, _^_, _<_}
 use native.Mathlib.Omega.{arith}
-use borrow.Author.Tests.{not-false}
-use Rattle.checks.proofs.Rules.{went-past}
 use Rattle.measures.specs.declared.Extent3d.{Extent3d}
 use Rattle.formats.specs.declared.TextureAspect.{TextureAspect}
 use Rattle.refusals.specs.declared.CopySide.{CopySide}
 use Rattle.refusals.specs.declared.TransferError.{TransferError}
-use Rattle.refusals.specs.declared.TransferError.the-variants as E
-use Rattle.refusals.specs.declared.Checked.{Checked}
-use Rattle.refusals.specs.declared.Checked.the-variants as C
-use Rattle.refusals.proofs.Answers.{handed}
 use Rattle.records.specs.declared.Buffer.{Buffer}
-use Rattle.records.specs.declared.Texture.{Texture}
 use Rattle.records.specs.declared.TexelCopyBufferLayout.{TexelCopyBufferLayout}
-use Rattle.records.specs.Bounds.{bufferInBounds, textureInBounds, bufferChecked, textureChecked}
+use Rattle.records.specs.Bounds.{bufferInBounds}
 use Rattle.records.proofs.Bounded.{buffer-laws}
-use Rattle.ranges.specs.declared.CopyExtent.{CopyExtent}
-use Rattle.ranges.specs.declared.RangeChecked.{RangeChecked}
-use Rattle.ranges.specs.declared.RangeChecked.the-variants as R
 use Rattle.linear.specs.declared.LinearData.{LinearData}
 use Rattle.linear.specs.declared.LinearChecked.{LinearChecked}
 use Rattle.linear.specs.declared.LinearChecked.the-variants as L
 use Rattle.linear.specs.Linear.{denseOf, dataOf, linearData}
 use Rattle.linear.proofs.Accepted.{every-linear}
-use Rattle.selectors.specs.declared.TextureSelector.{TextureSelector}
-use Rattle.selectors.specs.declared.TextureCopyBase.{TextureCopyBase}
-use Rattle.selectors.specs.declared.SelectorChecked.{SelectorChecked}
-use Rattle.selectors.specs.declared.SelectorChecked.the-variants as S
 use Rattle.init.specs.declared.TextureInitRange.{TextureInitRange}
 use Rattle.init.specs.declared.BufferInitRanges.{BufferInitRanges}
+use Rattle.copies.proofs.Rules.{copied}
 use Rattle.buffer_texture.specs.declared.BufferTextureCopy.{BufferTextureCopy}
 use Rattle.buffer_texture.specs.declared.CopyRanges.{CopyRanges}
 use Rattle.buffer_texture.specs.declared.BufferTexturePlan.{BufferTexturePlan}
 use Rattle.buffer_texture.specs.declared.BufferTexturePlanned.{BufferTexturePlanned}
 use Rattle.buffer_texture.specs.declared.BufferTexturePlanned.the-variants as P
-use Rattle.buffer_texture.specs.Plan.{after-range, after-selector, after-linear, rangeWhy, selectorWhy, linearWhy, rangesOf}
-
-module _ (r m : RangeChecked) (k : CopyExtent → ℕ → BufferTexturePlanned) where
-  pub range-goes : (x : BufferTexturePlanned) (v : CopyExtent) (n : ℕ) → r ≡ m → r ≡ R.GoOn v n → x ≡ k v n → x ≡ after-range m k
-  unfolding after-range
-  range-goes x v n p q h = rw (sym p ∙ q) h
-
-  pub range-stops : (d e : TransferError) → r ≡ m → r ≡ R.Refused e → d ≡ rangeWhy r → P.Refused d ≡ after-range m k
-  unfolding after-range rangeWhy
-  range-stops d e p q h = rw (sym p ∙ q) (ap P.Refused (h ∙ ap rangeWhy q))
-
-module _ (r m : SelectorChecked) (k : TextureCopyBase → BufferTexturePlanned) where
-  pub selector-goes : (x : BufferTexturePlanned) (s : TextureSelector) (b : TextureCopyBase) → r ≡ m → r ≡ S.GoOn s b → x ≡ k b → x ≡ after-selector m k
-  unfolding after-selector
-  selector-goes x s b p q h = rw (sym p ∙ q) h
-
-  pub selector-stops : (d e : TransferError) → r ≡ m → r ≡ S.Refused e → d ≡ selectorWhy r → P.Refused d ≡ after-selector m k
-  unfolding after-selector selectorWhy
-  selector-stops d e p q h = rw (sym p ∙ q) (ap P.Refused (h ∙ ap selectorWhy q))
+use Rattle.buffer_texture.specs.Plan.{after-linear, linearWhy, rangesOf}
 
 module _ (r m : LinearChecked) (k : LinearData → BufferTexturePlanned) where
   pub linear-goes : (x : BufferTexturePlanned) (s : LinearData) → r ≡ m → r ≡ L.GoOn s → x ≡ k s → x ≡ after-linear m k
@@ -71,7 +40,7 @@ module _ (r m : LinearChecked) (k : LinearData → BufferTexturePlanned) where
 pub planned-alike : (p q : BufferTexturePlan) → p ≡ q → P.Plan p ≡ P.Plan q
 planned-alike p q e = ap P.Plan e
 
-pub ruleset planned = (handed, range-goes, range-stops, selector-goes, selector-stops, linear-goes, linear-stops, planned-alike)
+pub ruleset planned = (copied, linear-goes, linear-stops, planned-alike)
 
 -- a plan by its parts
 pub built :
@@ -82,17 +51,6 @@ pub built :
 built s t p q h = cc
 
 -- ---- what callees need
-
-no-refusal : {e : TransferError} → C.Refused e ≡ C.GoOn → ⊥
-no-refusal h = let z : _≡_ {A = ℕ} 0 1 = cc in omega arith
-
-pub buffer-passed : (r : Checked) (b : Buffer) (side : CopySide) → r ≡ bufferChecked b side → r ≡ C.GoOn → bufferInBounds b ≡ true
-unfolding bufferChecked
-buffer-passed r b side p q = not-false (bufferInBounds b) (went-past Checked (not (bufferInBounds b)) (C.Refused (E.InvalidBufferRecord side)) C.GoOn C.GoOn (sym p ∙ q) no-refusal .0)
-
-pub texture-passed : (r : Checked) (t : Texture) (side : CopySide) → r ≡ textureChecked t side → r ≡ C.GoOn → textureInBounds t ≡ true
-unfolding textureChecked
-texture-passed r t side p q = not-false (textureInBounds t) (went-past Checked (not (textureInBounds t)) (C.Refused (E.InvalidTextureRecord side)) C.GoOn C.GoOn (sym p ∙ q) no-refusal .0)
 
 -- an accepted copy ends far below 2 ^ 63
 pub end-fits :

@@ -2,21 +2,11 @@
 use Prim.Native.Nat.{ℕ, _+_, _-_, _%_, _^_}
 use lib.Dec.{eqb}
 use Rattle.checks.specs.Checks.{stop-if, _$_}
-use Rattle.selectors.specs.declared.TextureCopyBase.{TextureCopyBase}
+use Rattle.copies.specs.Copies.{nextLayer}
 use Rattle.buffer_texture.specs.declared.BufferTextureCopy.{BufferTextureCopy}
 use Rattle.buffer_texture.specs.declared.BufferTexturePlan.{BufferTexturePlan}
 use Rattle.buffer_texture.specs.declared.NextBufferTextureCopy.the-variants.{Region, NoneLeft}
 use Rattle.buffer_texture.specs.declared.AskedBufferTexture.{AskedBufferTexture}
-
--- one layer on
-unfoldable pub nextLayer : TextureCopyBase → TextureCopyBase
-nextLayer b =
-    record {
-      «mip_level» = b .«mip_level»;
-      «array_layer» = (b .«array_layer» + 1) % 2 ^ 32;
-      origin = b .origin;
-      aspect = b .aspect;
-    }
 
 -- one stride and one layer on. The sums wrap; those of an accepted copy's regions never do.
 unfoldable pub moved : BufferTextureCopy → ℕ → BufferTextureCopy

@@ -1,7 +1,7 @@
 -- Copies between a buffer and a texture: the checks in their order, and the plan.
 use Prim.Native.Nat.{ℕ, _+_}
-use mathlib.Core.Bool.{Bool, true, false, _&&_, _||_, not}
-use lib.Dec.{eqb, leb}
+use mathlib.Core.Bool.{Bool, true, false, _&&_, not}
+use lib.Dec.{leb}
 use Rattle.checks.specs.Checks.{pick, stop-if, _$_}
 use Rattle.measures.specs.declared.Extent3d.{Extent3d}
 use Rattle.flags.specs.Flags.{holds}
@@ -19,23 +19,19 @@ use Rattle.records.specs.declared.TexelCopyTextureInfo.{TexelCopyTextureInfo}
 use Rattle.records.specs.declared.TexelCopyBufferLayout.{TexelCopyBufferLayout}
 use Rattle.records.specs.Bounds.{bufferChecked, textureChecked}
 use Rattle.ranges.specs.declared.CopyExtent.{CopyExtent}
-use Rattle.ranges.specs.declared.RangeChecked.{RangeChecked}
-use Rattle.ranges.specs.declared.RangeChecked.the-variants as R
 use Rattle.ranges.specs.Range.{rangeChecked}
 use Rattle.linear.specs.declared.LinearData.{LinearData}
 use Rattle.linear.specs.declared.LinearChecked.{LinearChecked}
 use Rattle.linear.specs.declared.LinearChecked.the-variants as L
 use Rattle.linear.specs.Linear.{linearData}
 use Rattle.format_rules.specs.Rules.{srcFormat, dstFormat, textureBufferCopy}
-use Rattle.selectors.specs.declared.TextureSelector.{TextureSelector}
 use Rattle.selectors.specs.declared.TextureCopyBase.{TextureCopyBase}
-use Rattle.selectors.specs.declared.SelectorChecked.{SelectorChecked}
-use Rattle.selectors.specs.declared.SelectorChecked.the-variants as S
 use Rattle.selectors.specs.Selector.{selectorChecked}
 use Rattle.init.specs.declared.TextureInitRange.{TextureInitRange}
 use Rattle.init.specs.declared.BufferInitRanges.{BufferInitRanges}
 use Rattle.init.specs.declared.OptionRange.the-variants.{Absent}
 use Rattle.init.specs.Init.{srcTextureRange, dstTextureRange, bufferInit}
+use Rattle.copies.specs.Copies.{after-range, after-selector, isEmpty}
 use Rattle.buffer_texture.specs.declared.BufferTextureCopy.{BufferTextureCopy}
 use Rattle.buffer_texture.specs.declared.CopyRanges.{CopyRanges}
 use Rattle.buffer_texture.specs.declared.CopyRanges.the-variants as N
@@ -43,36 +39,17 @@ use Rattle.buffer_texture.specs.declared.BufferTexturePlan.{BufferTextur
 use Rattle.buffer_texture.specs.declared.BufferTexturePlanned.{BufferTexturePlanned}
 use Rattle.buffer_texture.specs.declared.BufferTexturePlanned.the-variants as P
 
--- ---- a rule's answer: its refusal handed up, or the rest with what it gave
-
-unfoldable pub after-range : RangeChecked → (CopyExtent → ℕ → BufferTexturePlanned) → BufferTexturePlanned
-after-range (R.GoOn extent layers) rest = rest extent layers
-after-range (R.Refused e) rest = P.Refused e
-
-unfoldable pub after-selector : SelectorChecked → (TextureCopyBase → BufferTexturePlanned) → BufferTexturePlanned
-after-selector (S.GoOn selector base) rest = rest base
-after-selector (S.Refused e) rest = P.Refused e
+-- ---- linear data: its refusal handed up, or the rest with what it gave
 
 unfoldable pub after-linear : LinearChecked → (LinearData → BufferTexturePlanned) → BufferTexturePlanned
 after-linear (L.GoOn span) rest = rest span
 after-linear (L.Refused e) rest = P.Refused e
-
-unfoldable pub rangeWhy : RangeChecked → TransferError
-rangeWhy (R.GoOn extent layers) = E.SizeOverflow
-rangeWhy (R.Refused e) = e
-
-unfoldable pub selectorWhy : SelectorChecked → TransferError
-selectorWhy (S.GoOn selector base) = E.SizeOverflow
-selectorWhy (S.Refused e) = e
 
 unfoldable pub linearWhy : LinearChecked → TransferError
 linearWhy (L.GoOn span) = E.SizeOverflow
 linearWhy (L.Refused e) = e
 
 -- ---- the plan
-
-unfoldable pub isEmpty : Extent3d → Bool
-isEmpty size = eqb (size .width) 0 || (eqb (size .height) 0 || eqb (size .«depth_or_array_layers») 0)
 
 unfoldable pub firstRegion : TexelCopyBufferLayout → TextureCopyBase → CopyExtent → BufferTextureCopy
 firstRegion layout base extent =
@@ -124,8 +101,8 @@ uploadAllowed device b layout t view size extent layers base =
 -- module 3; 12
 unfoldable pub uploadRanged : Device → Buffer → TexelCopyBufferLayout → Texture → TexelCopyTextureInfo → Extent3d → BufferTexturePlanned
 uploadRanged device b layout t view size =
-    after-range (rangeChecked view t Destination size) λ extent layers.
-    after-selector (selectorChecked view t size) λ base.
+    after-range (rangeChecked view t Destination size) P.Refused λ extent layers.
+    after-selector (selectorChecked view t size) P.Refused λ base.
     uploadAllowed device b layout t view size extent layers base
 
 -- records: 3 source, 2 destination
@@ -157,8 +134,8 @@ downloadAllowed device b layout t view size extent layers base =
 -- module 3; 12
 unfoldable pub downloadRanged : Device → Buffer → TexelCopyBufferLayout → Texture → TexelCopyTextureInfo → Extent3d → BufferTexturePlanned
 downloadRanged device b layout t view size =
-    after-range (rangeChecked view t Source size) λ extent layers.
-    after-selector (selectorChecked view t size) λ base.
+    after-range (rangeChecked view t Source size) P.Refused λ extent layers.
+    after-selector (selectorChecked view t size) P.Refused λ base.
     downloadAllowed device b layout t view size extent layers base
 
 -- records: 2 source, 3 destination

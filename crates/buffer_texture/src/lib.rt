@@ -5,8 +5,8 @@ ghost use Prim.Native.Nat.{_+_, _^_, _<_};
 ghost use Rattle.checks.specs.Checks.{pick};
 ghost use Rattle.init.specs.Init.{srcTextureRange, dstTextureRange};
 ghost use Rattle.records.specs.Bounds.{bufferInBounds, textureInBounds};
-ghost use Rattle.buffer_texture.specs.Plan.{rangeWhy, selectorWhy, linearWhy, isEmpty, firstRegion, rangesOf, planOf, lacksDepthFact, uploadPlaced, uploadAllowed, uploadRanged, bufferToTexture, downloadPlaced, downloadAllowed, downloadRanged, textureToBuffer};
-ghost use Rattle.buffer_texture.specs.Asking.{nextLayer, moved, advanced, nextOf};
+ghost use Rattle.buffer_texture.specs.Plan.{linearWhy, firstRegion, rangesOf, planOf, lacksDepthFact, uploadPlaced, uploadAllowed, uploadRanged, bufferToTexture, downloadPlaced, downloadAllowed, downloadRanged, textureToBuffer};
+ghost use Rattle.buffer_texture.specs.Asking.{moved, advanced, nextOf};
 use flags::BufferUsages;
 use flags::TextureUsages;
 use init::BufferInitRanges;
@@ -68,24 +68,6 @@ pub struct AskedBufferTexture {
     pub plan: BufferTexturePlan,
 }
 
-fn range_why(answer: RangeChecked) -> TransferError
-    ensures { λ r. ⌜ r ≡ rangeWhy answer ⌝ }
-{
-    match answer {
-        RangeChecked::GoOn(_, _) => TransferError::SizeOverflow,
-        RangeChecked::Refused(e) => e,
-    }
-}
-
-fn selector_why(answer: SelectorChecked) -> TransferError
-    ensures { λ r. ⌜ r ≡ selectorWhy answer ⌝ }
-{
-    match answer {
-        SelectorChecked::GoOn(_, _) => TransferError::SizeOverflow,
-        SelectorChecked::Refused(e) => e,
-    }
-}
-
 fn linear_why(answer: LinearChecked) -> TransferError
     ensures { λ r. ⌜ r ≡ linearWhy answer ⌝ }
 {
@@ -93,15 +75,6 @@ fn linear_why(answer: LinearChecked) -> TransferError
         LinearChecked::GoOn(_) => TransferError::SizeOverflow,
         LinearChecked::Refused(e) => e,
     }
-}
-
-fn is_empty(size: Extent3d) -> bool
-    ensures { λ r. ⌜ r ≡ isEmpty size ⌝ }
-{
-    checks::either(
-        size.width == 0,
-        checks::either(size.height == 0, size.depth_or_array_layers == 0),
-    )
 }
 
 fn first_region(
@@ -153,7 +126,7 @@ fn plan_of(
     requires { ⌜ layout .offset + span .«bytes_in_copy» < 2 ^ 63 ⌝ }
     ensures { λ r. ⌜ r ≡ planOf layout size extent layers base span side texture ⌝ }
 {
-    let empty = is_empty(size);
+    let empty = copies::is_empty(size);
     let region = first_region(layout, base, extent);
     let left = count_of(empty, layers);
     let buffer = init::handle_buffer_init(
@@ -293,11 +266,11 @@ fn range_upload(
 {
     let ranged = ranges::validate_texture_copy_range(view, t, CopySide::Destination, size);
     let RangeChecked::GoOn(extent, layers) = ranged else {
-        return BufferTexturePlanned::Refused(range_why(ranged));
+        return BufferTexturePlanned::Refused(copies::range_why(ranged));
     };
     let selected = selectors::extract_texture_selector(view, size, t);
     let SelectorChecked::GoOn(_, base) = selected else {
-        return BufferTexturePlanned::Refused(selector_why(selected));
+        return BufferTexturePlanned::Refused(copies::selector_why(selected));
     };
     allow_upload(device, b, layout, t, view, size, extent, layers, base)
 }
@@ -442,11 +415,11 @@ fn range_download(
 {
     let ranged = ranges::validate_texture_copy_range(view, t, CopySide::Source, size);
     let RangeChecked::GoOn(extent, layers) = ranged else {
-        return BufferTexturePlanned::Refused(range_why(ranged));
+        return BufferTexturePlanned::Refused(copies::range_why(ranged));
     };
     let selected = selectors::extract_texture_selector(view, size, t);
     let SelectorChecked::GoOn(_, base) = selected else {
-        return BufferTexturePlanned::Refused(selector_why(selected));
+        return BufferTexturePlanned::Refused(copies::selector_why(selected));
     };
     allow_download(device, b, layout, t, view, size, extent, layers, base)
 }
@@ -473,19 +446,6 @@ pub fn copy_texture_to_buffer(
     range_download(device, b, layout, t, view, copy_size)
 }
 
-fn next_layer(b: TextureCopyBase) -> TextureCopyBase
-    ensures { λ r. ⌜ r ≡ nextLayer b ⌝ }
-{
-    let origin = b.origin;
-    let aspect = b.aspect;
-    TextureCopyBase {
-        mip_level: b.mip_level,
-        array_layer: std::num::wrapping_add_u32(b.array_layer, 1),
-        origin,
-        aspect,
-    }
-}
-
 impl BufferTextureCopy {
     fn moved(self, stride: u64) -> BufferTextureCopy
         ensures { λ r. ⌜ r ≡ moved self stride ⌝ }
@@ -494,7 +454,7 @@ impl BufferTextureCopy {
         let rows_per_image = self.rows_per_image;
         let base = self.base;
         let size = self.size;
-        let on = next_layer(base);
+        let on = copies::next_layer(base);
         BufferTextureCopy {
             offset: std::num::wrapping_add_u64(self.offset, stride),
             bytes_per_row,

@@ -10,7 +10,7 @@ use Rattle.formats.specs.declared.FormatRow.{FormatRow}
 abbrev pub none : ℕ
 none = 0
 
--- the aspects' bits: colour, depth, stencil, depth with stencil, planes 0 and 1
+-- the aspects' bits: colour, depth, stencil, depth with stencil, plane 0, plane 1, both planes
 abbrev pub COLOR : ℕ
 COLOR = 1
 
@@ -22,6 +22,12 @@ STENCIL = 4
 
 abbrev pub DEPTH-STENCIL : ℕ
 DEPTH-STENCIL = 6
+
+abbrev pub PLANE-0 : ℕ
+PLANE-0 = 8
+
+abbrev pub PLANE-1 : ℕ
+PLANE-1 = 16
 
 abbrev pub PLANES : ℕ
 PLANES = 24

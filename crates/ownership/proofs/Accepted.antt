@@ -55,7 +55,8 @@ use Rattle.selectors.specs.Selector.{selectorOf, baseOf, selectedOf, selectorCh
 use Rattle.buffer_texture.specs.declared.BufferTexturePlan.{BufferTexturePlan}
 use Rattle.buffer_texture.specs.declared.BufferTexturePlanned.{BufferTexturePlanned}
 use Rattle.buffer_texture.specs.declared.BufferTexturePlanned.the-variants as P
-use Rattle.buffer_texture.specs.Plan.{after-range, after-selector, after-linear, planOf, lacksDepthFact, uploadPlaced, uploadAllowed, uploadRanged, bufferToTexture, downloadPlaced, downloadAllowed, downloadRanged, textureToBuffer}
+use Rattle.copies.specs.Copies.{after-range, after-selector}
+use Rattle.buffer_texture.specs.Plan.{after-linear, planOf, lacksDepthFact, uploadPlaced, uploadAllowed, uploadRanged, bufferToTexture, downloadPlaced, downloadAllowed, downloadRanged, textureToBuffer}
 use Rattle.ownership.specs.Copy.{Copy, planned, dimension, depth, blockW, blockH, bytes, wide, high, dense, row, rows, image, imageBytes, total, bufferSide, textureRange}
 use Rattle.ownership.proofs.Formats.{formatRule, block-has-bytes}
 
@@ -67,12 +68,12 @@ no-plan h = let z : _≡_ {A = ℕ} 0 1 = cc in omega arith
 same-plan : {p q : BufferTexturePlan} → P.Plan p ≡ P.Plan q → p ≡ q
 same-plan e = cc
 
-ranged : (m : RangeChecked) (k : CopyExtent → ℕ → BufferTexturePlanned) (p : BufferTexturePlan) → after-range m k ≡ P.Plan p → (v : CopyExtent) × (n : ℕ) × (m ≡ R.GoOn v n) × (k v n ≡ P.Plan p)
+ranged : (m : RangeChecked) (k : CopyExtent → ℕ → BufferTexturePlanned) (p : BufferTexturePlan) → after-range m P.Refused k ≡ P.Plan p → (v : CopyExtent) × (n : ℕ) × (m ≡ R.GoOn v n) × (k v n ≡ P.Plan p)
 unfolding after-range
 ranged (R.GoOn v n) k p h = (v, n, refl, h)
 ranged (R.Refused e) k p h = absurd (no-plan h)
 
-selected : (m : SelectorChecked) (k : TextureCopyBase → BufferTexturePlanned) (p : BufferTexturePlan) → after-selector m k ≡ P.Plan p → (s : TextureSelector) × (b : TextureCopyBase) × (m ≡ S.GoOn s b) × (k b ≡ P.Plan p)
+selected : (m : SelectorChecked) (k : TextureCopyBase → BufferTexturePlanned) (p : BufferTexturePlan) → after-selector m P.Refused k ≡ P.Plan p → (s : TextureSelector) × (b : TextureCopyBase) × (m ≡ S.GoOn s b) × (k b ≡ P.Plan p)
 unfolding after-selector
 selected (S.GoOn s b) k p h = (s, b, refl, h)
 selected (S.Refused e) k p h = absurd (no-plan h)

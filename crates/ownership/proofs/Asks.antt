@@ -12,7 +12,8 @@ use Rattle.buffer_texture.specs.declared.BufferTextureCopy.{BufferTextureCopy}
 use Rattle.buffer_texture.specs.declared.BufferTexturePlan.{BufferTexturePlan}
 use Rattle.buffer_texture.specs.declared.AskedBufferTexture.{AskedBufferTexture}
 use Rattle.buffer_texture.specs.declared.NextBufferTextureCopy.the-variants.{Region, NoneLeft}
-use Rattle.buffer_texture.specs.Asking.{nextLayer, moved, advanced, nextOf}
+use Rattle.copies.specs.Copies.{nextLayer}
+use Rattle.buffer_texture.specs.Asking.{moved, advanced, nextOf}
 use Rattle.ownership.specs.Copy.{Copy, dimension, image, regionAt, regionsFrom}
 use Rattle.ownership.specs.Demand3.{Gives, ended, gave}
 

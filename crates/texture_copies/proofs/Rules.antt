@@ -1,13 +1,11 @@
 -- How the checks of a copy between textures go on after a rule's answer was taken apart.
 -- Assumes nothing.
-use mathlib.Core.Path.{_≡_, refl, sym, ap, _∙_}
-use mathlib.Core.Bool.{Bool, true, not}
+use mathlib.Core.Path.{_≡_, sym, ap, _∙_}
+use mathlib.Core.Bool.{Bool, true}
 use Prim.Native.Nat.{ℕ, _+_, _*_, _^_, _≤_, _<_}
 use native.Mathlib.Omega.{arith}
 use native.Mathlib.Nat.{mul-le-mul-left}
-use borrow.Author.Tests.{not-false}
 use Rattle.checks.specs.Checks.{pick}
-use Rattle.checks.proofs.Rules.{went-past}
 use Rattle.measures.specs.declared.Extent3d.{Extent3d}
 use Rattle.measures.specs.Measure.{physicalSize}
 use Rattle.formats.specs.declared.TextureAspect.{TextureAspect}
@@ -17,15 +15,10 @@ use Rattle.levels.specs.declared.TextureDimension.{TextureDimension}
 use Rattle.levels.specs.declared.TextureDimension.the-variants.{D1, D2, D3}
 use Rattle.levels.specs.Level.{dimensionOf}
 use Rattle.refusals.specs.declared.CopySide.{CopySide}
-use Rattle.refusals.specs.declared.TransferError.{TransferError}
-use Rattle.refusals.specs.declared.TransferError.the-variants as E
-use Rattle.refusals.specs.declared.Checked.{Checked}
-use Rattle.refusals.specs.declared.Checked.the-variants as C
-use Rattle.refusals.proofs.Answers.{handed}
 use Rattle.records.specs.declared.Texture.{Texture}
 use Rattle.records.specs.declared.TexelCopyTextureInfo.{TexelCopyTextureInfo}
 use Rattle.records.specs.Limits.{maxSide3d}
-use Rattle.records.specs.Bounds.{textureInBounds, textureChecked}
+use Rattle.records.specs.Bounds.{textureInBounds}
 use Rattle.records.specs.Extents.{physicalExtent}
 use Rattle.records.proofs.Bounded.{texture-laws}
 use Rattle.ranges.specs.declared.CopyExtent.{CopyExtent}
@@ -33,40 +26,20 @@ use Rattle.ranges.specs.declared.RangeChecked.{RangeChecked}
 use Rattle.ranges.specs.declared.RangeChecked.the-variants as R
 use Rattle.ranges.specs.Range.{layersOf, arrayLayerCount, rangeChecked}
 use Rattle.ranges.proofs.Accepted.{every-range}
-use Rattle.selectors.specs.declared.TextureSelector.{TextureSelector}
 use Rattle.selectors.specs.declared.TextureCopyBase.{TextureCopyBase}
-use Rattle.selectors.specs.declared.SelectorChecked.{SelectorChecked}
-use Rattle.selectors.specs.declared.SelectorChecked.the-variants as S
+use Rattle.copies.proofs.Rules.{copied}
 use Rattle.texture_copies.specs.declared.CopyParts.{CopyParts}
 use Rattle.texture_copies.specs.declared.TextureRanges.{TextureRanges}
 use Rattle.texture_copies.specs.declared.TexturePlan.{TexturePlan}
 use Rattle.texture_copies.specs.declared.TexturePlanned.{TexturePlanned}
 use Rattle.texture_copies.specs.declared.TexturePlanned.the-variants as P
-use Rattle.texture_copies.specs.Plan.{after-range, after-selector, rangeWhy, selectorWhy, partCount}
-
-module _ (r m : RangeChecked) (k : CopyExtent → ℕ → TexturePlanned) where
-  pub range-goes : (x : TexturePlanned) (v : CopyExtent) (n : ℕ) → r ≡ m → r ≡ R.GoOn v n → x ≡ k v n → x ≡ after-range m k
-  unfolding after-range
-  range-goes x v n p q h = rw (sym p ∙ q) h
-
-  pub range-stops : (d e : TransferError) → r ≡ m → r ≡ R.Refused e → d ≡ rangeWhy r → P.Refused d ≡ after-range m k
-  unfolding after-range rangeWhy
-  range-stops d e p q h = rw (sym p ∙ q) (ap P.Refused (h ∙ ap rangeWhy q))
-
-module _ (r m : SelectorChecked) (k : TextureCopyBase → TexturePlanned) where
-  pub selector-goes : (x : TexturePlanned) (s : TextureSelector) (b : TextureCopyBase) → r ≡ m → r ≡ S.GoOn s b → x ≡ k b → x ≡ after-selector m k
-  unfolding after-selector
-  selector-goes x s b p q h = rw (sym p ∙ q) h
-
-  pub selector-stops : (d e : TransferError) → r ≡ m → r ≡ S.Refused e → d ≡ selectorWhy r → P.Refused d ≡ after-selector m k
-  unfolding after-selector selectorWhy
-  selector-stops d e p q h = rw (sym p ∙ q) (ap P.Refused (h ∙ ap selectorWhy q))
+use Rattle.texture_copies.specs.Plan.{partCount}
 
 -- a plan that a function gave
 pub planned-alike : (p q : TexturePlan) → p ≡ q → P.Plan p ≡ P.Plan q
 planned-alike p q e = ap P.Plan e
 
-pub ruleset planned = (handed, range-goes, range-stops, selector-goes, selector-stops, planned-alike)
+pub ruleset planned = (copied, planned-alike)
 
 -- a plan by its parts
 pub built :
@@ -77,13 +50,6 @@ pub built :
 built a b k h i j l = cc
 
 -- ---- what callees need
-
-no-refusal : {e : TransferError} → C.Refused e ≡ C.GoOn → ⊥
-no-refusal h = let z : _≡_ {A = ℕ} 0 1 = cc in omega arith
-
-pub texture-passed : (r : Checked) (t : Texture) (side : CopySide) → r ≡ textureChecked t side → r ≡ C.GoOn → textureInBounds t ≡ true
-unfolding textureChecked
-texture-passed r t side p q = not-false (textureInBounds t) (went-past Checked (not (textureInBounds t)) (C.Refused (E.InvalidTextureRecord side)) C.GoOn C.GoOn (sym p ∙ q) no-refusal .0)
 
 pub factor-some : (aspect : TextureAspect) → 0 < subsamplingFactor aspect
 unfolding subsamplingFactor

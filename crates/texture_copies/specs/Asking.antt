@@ -1,9 +1,11 @@
 -- Asking a plan of a copy between textures for its next region.
-use Prim.Native.Nat.{ℕ, _+_, _-_, _/_, _%_, _^_}
+use Prim.Native.Nat.{ℕ, _-_, _/_}
 use lib.Dec.{eqb}
 use Rattle.checks.specs.Checks.{pick, stop-if, _$_}
+use Rattle.formats.specs.Sheet.{DEPTH, STENCIL, PLANE-0, PLANE-1}
 use Rattle.ranges.specs.declared.CopyExtent.{CopyExtent}
 use Rattle.selectors.specs.declared.TextureCopyBase.{TextureCopyBase}
+use Rattle.copies.specs.Copies.{nextLayer}
 use Rattle.texture_copies.specs.declared.CopyParts.{CopyParts}
 use Rattle.texture_copies.specs.declared.CopyParts.the-variants.{Whole, DepthStencil, Planes}
 use Rattle.texture_copies.specs.declared.TextureCopy.{TextureCopy}
@@ -31,18 +33,8 @@ regionAs p aspects factor = record { src = baseAs (p .src) aspects factor; dst =
 -- depth, then stencil; plane 0, then plane 1
 unfoldable pub regionOf : CopyParts → TexturePlan → TextureCopy
 regionOf Whole p = record { src = p .src; dst = p .dst; size = p .size }
-regionOf DepthStencil p = pick (eqb (p .part) 0) (regionAs p 2 1) (regionAs p 4 1)
-regionOf Planes p = pick (eqb (p .part) 0) (regionAs p 8 1) (regionAs p 16 2)
-
--- one layer on. The sum wraps; those of an accepted copy's regions never do.
-unfoldable pub nextLayer : TextureCopyBase → TextureCopyBase
-nextLayer b =
-    record {
-      «mip_level» = b .«mip_level»;
-      «array_layer» = (b .«array_layer» + 1) % 2 ^ 32;
-      origin = b .origin;
-      aspect = b .aspect;
-    }
+regionOf DepthStencil p = pick (eqb (p .part) 0) (regionAs p DEPTH 1) (regionAs p STENCIL 1)
+regionOf Planes p = pick (eqb (p .part) 0) (regionAs p PLANE-0 1) (regionAs p PLANE-1 2)
 
 abbrev pub planAt : TexturePlan → TextureCopyBase → TextureCopyBase → ℕ → TexturePlan
 planAt p src dst part =

@@ -1,6 +1,6 @@
 -- Copies from texture to texture: the checks in their order, and the plan.
 use Prim.Native.Nat.{ℕ, _*_, _/_, min}
-use mathlib.Core.Bool.{Bool, true, false, _&&_, _||_, not}
+use mathlib.Core.Bool.{Bool, true, false, _&&_, not}
 use lib.Dec.{eqb}
 use Rattle.checks.specs.Checks.{pick, stop-if, _$_}
 use Rattle.measures.specs.declared.Extent3d.{Extent3d}
@@ -12,7 +12,6 @@ use Rattle.formats.specs.Sheet.{aspectsOf, isCombinedDepthStencil, isMultiPlana
 use Rattle.formats.specs.Aspects.{aspectSpecificFormat, subsamplingFactor}
 use Rattle.refusals.specs.declared.CopySide.the-variants.{Source, Destination}
 use Rattle.refusals.specs.declared.TextureErrorDimension.the-variants.{X, Y}
-use Rattle.refusals.specs.declared.TransferError.{TransferError}
 use Rattle.refusals.specs.declared.TransferError.the-variants as E
 use Rattle.refusals.specs.declared.Checked.{Checked}
 use Rattle.refusals.specs.declared.Checked.the-variants as C
@@ -22,15 +21,12 @@ use Rattle.records.specs.declared.TexelCopyTextureInfo.{TexelCopyTextureInfo}
 use Rattle.records.specs.Bounds.{textureChecked}
 use Rattle.records.specs.Extents.{logicalExtent}
 use Rattle.ranges.specs.declared.CopyExtent.{CopyExtent}
-use Rattle.ranges.specs.declared.RangeChecked.{RangeChecked}
-use Rattle.ranges.specs.declared.RangeChecked.the-variants as R
 use Rattle.ranges.specs.Range.{subjectOf, dimensionChecked, rangeChecked}
 use Rattle.selectors.specs.declared.TextureCopyBase.{TextureCopyBase}
-use Rattle.selectors.specs.declared.SelectorChecked.{SelectorChecked}
-use Rattle.selectors.specs.declared.SelectorChecked.the-variants as S
 use Rattle.selectors.specs.Selector.{selectorChecked, sameTextureChecked}
 use Rattle.init.specs.declared.TextureInitRange.{TextureInitRange}
 use Rattle.init.specs.Init.{srcTextureRange, dstTextureRange}
+use Rattle.copies.specs.Copies.{after-range, after-selector, isEmpty}
 use Rattle.texture_copies.specs.declared.TextureSide.{TextureSide}
 use Rattle.texture_copies.specs.declared.CopyParts.{CopyParts}
 use Rattle.texture_copies.specs.declared.CopyParts.the-variants.{Whole, DepthStencil, Planes}
@@ -40,28 +36,7 @@ use Rattle.texture_copies.specs.declared.TexturePlan.{TexturePlan}
 use Rattle.texture_copies.specs.declared.TexturePlanned.{TexturePlanned}
 use Rattle.texture_copies.specs.declared.TexturePlanned.the-variants as P
 
--- ---- a rule's answer: its refusal handed up, or the rest with what it gave
-
-unfoldable pub after-range : RangeChecked → (CopyExtent → ℕ → TexturePlanned) → TexturePlanned
-after-range (R.GoOn extent layers) rest = rest extent layers
-after-range (R.Refused e) rest = P.Refused e
-
-unfoldable pub after-selector : SelectorChecked → (TextureCopyBase → TexturePlanned) → TexturePlanned
-after-selector (S.GoOn selector base) rest = rest base
-after-selector (S.Refused e) rest = P.Refused e
-
-unfoldable pub rangeWhy : RangeChecked → TransferError
-rangeWhy (R.GoOn extent layers) = E.SizeOverflow
-rangeWhy (R.Refused e) = e
-
-unfoldable pub selectorWhy : SelectorChecked → TransferError
-selectorWhy (S.GoOn selector base) = E.SizeOverflow
-selectorWhy (S.Refused e) = e
-
 -- ---- the plan
-
-unfoldable pub isEmpty : Extent3d → Bool
-isEmpty size = eqb (size .width) 0 || (eqb (size .height) 0 || eqb (size .«depth_or_array_layers») 0)
 
 -- each size is the lesser of both sides
 unfoldable pub lesser : CopyExtent → CopyExtent → CopyExtent
@@ -148,8 +123,8 @@ usable src dst size srcExtent dstExtent layers srcBase dstBase =
 -- 12 source, destination; 26 (not for the split); 27
 unfoldable pub selectedCopy : Bool → TextureSide → TextureSide → Extent3d → CopyExtent → CopyExtent → ℕ → TexturePlanned
 selectedCopy split src dst size srcExtent dstExtent layers =
-    after-selector (selectorChecked (src .view) (src .texture) size) λ srcBase.
-    after-selector (selectorChecked (dst .view) (dst .texture) size) λ dstBase.
+    after-selector (selectorChecked (src .view) (src .texture) size) P.Refused λ srcBase.
+    after-selector (selectorChecked (dst .view) (dst .texture) size) P.Refused λ dstBase.
     stop-if (not split && not (eqb (srcBase .aspect .0) (aspectsOf (src .texture .format)))) (P.Refused E.CopySrcMissingAspects) $
     stop-if (not (eqb (dstBase .aspect .0) (aspectsOf (dst .texture .format)))) (P.Refused E.CopyDstMissingAspects) $
     usable src dst size srcExtent dstExtent layers srcBase dstBase
@@ -157,8 +132,8 @@ selectedCopy split src dst size srcExtent dstExtent layers =
 -- module 3 source, destination; 9 against the plane; 11
 unfoldable pub rangedCopy : Bool → Bool → TextureSide → TextureSide → Extent3d → TexturePlanned
 rangedCopy same split src dst size =
-    after-range (rangeChecked (src .view) (src .texture) Source size) λ srcExtent layers.
-    after-range (rangeChecked (dst .view) (dst .texture) Destination size) λ dstExtent dstLayers.
+    after-range (rangeChecked (src .view) (src .texture) Source size) P.Refused λ srcExtent layers.
+    after-range (rangeChecked (dst .view) (dst .texture) Destination size) P.Refused λ dstExtent dstLayers.
     after (planeChecked split src size) P.Refused $
     after (withinOne same src dst layers) P.Refused $
     selectedCopy split src dst size srcExtent dstExtent layers

@@ -4,14 +4,15 @@ ghost use mathlib.Core.Bool.{true, false, _&&_, not};
 ghost use Prim.Native.Nat.{_*_, _/_, _<_, _≤_, _^_, min};
 ghost use lib.Dec.{eqb};
 ghost use Rattle.checks.specs.Checks.{pick};
-ghost use Rattle.formats.specs.Sheet.{aspectsOf};
+ghost use Rattle.formats.specs.Sheet.{DEPTH, STENCIL, PLANE-0, PLANE-1, aspectsOf};
+ghost use Rattle.copies.specs.Copies.{isEmpty};
 ghost use Rattle.formats.specs.Aspects.{subsamplingFactor};
 ghost use Rattle.ranges.specs.Range.{subjectOf, dimensionChecked, rangeChecked};
 ghost use Rattle.selectors.specs.Selector.{selectorChecked, sameTextureChecked};
 ghost use Rattle.records.specs.Bounds.{textureInBounds, textureChecked};
 ghost use Rattle.init.specs.Init.{srcTextureRange, dstTextureRange};
-ghost use Rattle.texture_copies.specs.Plan.{rangeWhy, selectorWhy, isEmpty, lesser, partsOf, partCount, rangesOf, planOf, isThis, isPlaneSplit, formatsDiffer, planeWidth, planeHeight, planeSides, planeChecked, withinOne, usable, selectedCopy, rangedCopy, textureToTexture};
-ghost use Rattle.texture_copies.specs.Asking.{baseAs, sizeBy, regionAs, regionOf, nextLayer, otherPart, otherLayer, advanced, nextOf};
+ghost use Rattle.texture_copies.specs.Plan.{lesser, partsOf, partCount, rangesOf, planOf, isThis, isPlaneSplit, formatsDiffer, planeWidth, planeHeight, planeSides, planeChecked, withinOne, usable, selectedCopy, rangedCopy, textureToTexture};
+ghost use Rattle.texture_copies.specs.Asking.{baseAs, sizeBy, regionAs, regionOf, otherPart, otherLayer, advanced, nextOf};
 use flags::FormatAspects;
 use flags::TextureUsages;
 use formats::TextureAspect;
@@ -84,33 +85,6 @@ pub struct AskedTexture {
     pub plan: TexturePlan,
 }
 
-fn range_why(answer: RangeChecked) -> TransferError
-    ensures { λ r. ⌜ r ≡ rangeWhy answer ⌝ }
-{
-    match answer {
-        RangeChecked::GoOn(_, _) => TransferError::SizeOverflow,
-        RangeChecked::Refused(e) => e,
-    }
-}
-
-fn selector_why(answer: SelectorChecked) -> TransferError
-    ensures { λ r. ⌜ r ≡ selectorWhy answer ⌝ }
-{
-    match answer {
-        SelectorChecked::GoOn(_, _) => TransferError::SizeOverflow,
-        SelectorChecked::Refused(e) => e,
-    }
-}
-
-fn is_empty(size: Extent3d) -> bool
-    ensures { λ r. ⌜ r ≡ isEmpty size ⌝ }
-{
-    checks::either(
-        size.width == 0,
-        checks::either(size.height == 0, size.depth_or_array_layers == 0),
-    )
-}
-
 fn least(a: u32, b: u32) -> u32
     ensures { λ r. ⌜ r ≡ min a b ⌝ }
 {
@@ -178,7 +152,7 @@ fn texture_ranges(src: TextureSide, dst: TextureSide, size: Extent3d) -> Texture
     let dst_view = dst.view;
     let dst_texture = dst.texture;
     ranges_of(
-        is_empty(size),
+        copies::is_empty(size),
         init::src_texture_range(src_view, src_texture, size),
         init::dst_texture_range(dst_view, dst_texture, size),
     )
@@ -200,7 +174,7 @@ fn plan_of(
     let dst_texture = dst.texture;
     let parts = parts_of(dst_texture.format);
     let lesser = lesser_of(src_extent, dst_extent);
-    let left = region_count(is_empty(size), layers, parts);
+    let left = region_count(copies::is_empty(size), layers, parts);
     let ranges = texture_ranges(src, dst, size);
     TexturePlan {
         src: src_base,
@@ -431,11 +405,11 @@ fn select_copy(
 {
     let from = select_side(src, size);
     let SelectorChecked::GoOn(_, src_base) = from else {
-        return TexturePlanned::Refused(selector_why(from));
+        return TexturePlanned::Refused(copies::selector_why(from));
     };
     let to = select_side(dst, size);
     let SelectorChecked::GoOn(_, dst_base) = to else {
-        return TexturePlanned::Refused(selector_why(to));
+        return TexturePlanned::Refused(copies::selector_why(to));
     };
     if lacks_src_aspects(split, src, src_base) {
         return TexturePlanned::Refused(TransferError::CopySrcMissingAspects);
@@ -476,11 +450,11 @@ fn range_copy(
 {
     let from = range_side(src, CopySide::Source, size);
     let RangeChecked::GoOn(src_extent, layers) = from else {
-        return TexturePlanned::Refused(range_why(from));
+        return TexturePlanned::Refused(copies::range_why(from));
     };
     let to = range_side(dst, CopySide::Destination, size);
     let RangeChecked::GoOn(dst_extent, _) = to else {
-        return TexturePlanned::Refused(range_why(to));
+        return TexturePlanned::Refused(copies::range_why(to));
     };
     let plane = check_plane(split, src, size);
     let Checked::GoOn = plane else {
@@ -565,19 +539,6 @@ fn size_by(e: CopyExtent, factor: u32) -> CopyExtent
     }
 }
 
-fn next_layer(b: TextureCopyBase) -> TextureCopyBase
-    ensures { λ r. ⌜ r ≡ nextLayer b ⌝ }
-{
-    let origin = b.origin;
-    let aspect = b.aspect;
-    TextureCopyBase {
-        mip_level: b.mip_level,
-        array_layer: std::num::wrapping_add_u32(b.array_layer, 1),
-        origin,
-        aspect,
-    }
-}
-
 impl TexturePlan {
     fn region_as(self, aspects: u32, factor: u32) -> TextureCopy
         requires { ⌜ 0 < factor ⌝ }
@@ -615,13 +576,25 @@ impl TexturePlan {
         self.region_as(second, factor)
     }
 
+    fn depth_or_stencil(self) -> TextureCopy
+        ensures { λ r. ⌜ r ≡ pick (eqb (self .part) 0) (regionAs self DEPTH 1) (regionAs self STENCIL 1) ⌝ }
+    {
+        self.part_as(FormatAspects::DEPTH.0, FormatAspects::STENCIL.0, 1)
+    }
+
+    fn plane(self) -> TextureCopy
+        ensures { λ r. ⌜ r ≡ pick (eqb (self .part) 0) (regionAs self PLANE-0 1) (regionAs self PLANE-1 2) ⌝ }
+    {
+        self.part_as(FormatAspects::PLANE_0.0, FormatAspects::PLANE_1.0, 2)
+    }
+
     fn region_of(self, parts: CopyParts) -> TextureCopy
         ensures { λ r. ⌜ r ≡ regionOf parts self ⌝ }
     {
         match parts {
             CopyParts::Whole => self.whole(),
-            CopyParts::DepthStencil => self.part_as(2, 4, 1),
-            CopyParts::Planes => self.part_as(8, 16, 2),
+            CopyParts::DepthStencil => self.depth_or_stencil(),
+            CopyParts::Planes => self.plane(),
         }
     }
 
@@ -654,8 +627,8 @@ impl TexturePlan {
         let size = self.size;
         let parts = self.parts;
         let ranges = self.ranges;
-        let from = next_layer(src);
-        let to = next_layer(dst);
+        let from = copies::next_layer(src);
+        let to = copies::next_layer(dst);
         TexturePlan {
             src: from,
             dst: to,

@@ -3,3 +3,4 @@ pub mod TextureRanges
 pub mod Linears
 pub mod Subresources
 pub mod Tables
+pub mod Compatible

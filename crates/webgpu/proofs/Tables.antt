@@ -40,7 +40,7 @@ isGivenB : OptionU32 → Bool
 isGivenB (Given n) = true
 isGivenB Absent = false
 
-abbrev same : Bool → Bool → Bool
+abbrev pub same : Bool → Bool → Bool
 same true t = t
 same false t = not t
 
@@ -69,12 +69,12 @@ all-agree false Plane2 = refl
 
 -- ---- what the test says of one format and aspect
 
-same-is : (s t : Bool) → same s t ≡ true → s ≡ t
+pub same-is : (s t : Bool) → same s t ≡ true → s ≡ t
 same-is true t e = sym e
 same-is false true e = e
 same-is false false e = refl
 
-or-rest : (s t : Bool) → (s || t) ≡ true → s ≡ false → t ≡ true
+pub or-rest : (s t : Bool) → (s || t) ≡ true → s ≡ false → t ≡ true
 or-rest true t e f = let z : _≡_ {A = ℕ} 0 1 = cc in absurd (omega arith)
 or-rest false t e f = e
 
@@ -82,7 +82,7 @@ record Agrees (reads : Bool) (format : ℕ) (aspect : TextureAspect) : Type 0 wh
   allowed : (goesB (formatRule reads format aspect) && isOne (chosenAspects format aspect)) ≡ aspectAllowed reads format aspect
   bytes : isDepthStencil format ≡ false → isGivenB (blockCopySize format aspect) ≡ true
 
-below-nv12 : (format : ℕ) → isFormat format ≡ true → isMultiPlanar format ≡ false → format < 21
+pub below-nv12 : (format : ℕ) → isFormat format ≡ true → isMultiPlanar format ≡ false → format < 21
 unfolding isFormat isMultiPlanar formats
 below-nv12 format known no-planes =
     let listed : format < 22 = ltb-true format 22 known in

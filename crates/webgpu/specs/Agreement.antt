@@ -10,7 +10,7 @@ use Rattle.measures.specs.declared.OptionU32.the-variants as O
 use Rattle.levels.specs.declared.TextureDimension.the-variants.{D2}
 use Rattle.levels.specs.Level.{dimensionOf, maxMipLevels}
 use Rattle.formats.specs.declared.TextureAspect.{TextureAspect}
-use Rattle.formats.specs.Sheet.{blockWidth, blockHeight, isFormat, isMultiPlanar}
+use Rattle.formats.specs.Sheet.{blockWidth, blockHeight, aspectsOf, isFormat, isMultiPlanar, removeSrgb}
 use Rattle.formats.specs.Aspects.{chosenAspects}
 use Rattle.refusals.specs.declared.CopySide.{CopySide}
 use Rattle.refusals.specs.declared.Checked.{Checked}
@@ -114,3 +114,12 @@ abbrev pub SameTexture : Type 0
 SameTexture =
     (t : Texture) (src dst : TexelCopyTextureInfo) (size : Extent3d) → dimensionOf (t .dimension) ≡ D2
     → (sameTextureChecked src dst (t .format) (arrayLayerCount t size) ≡ C.GoOn) ↔ W.Disjoint t src dst size
+
+-- ---- formats and aspects of copies between textures
+
+abbrev pub CompatibleFormats : Type 0
+CompatibleFormats = (a b : ℕ) → isFormat a ≡ true → isFormat b ≡ true → eqb (removeSrgb a) (removeSrgb b) ≡ W.copyCompatible a b
+
+-- all of a format's aspects are chosen exactly where the standard has them all named
+abbrev pub AllAspects : Type 0
+AllAspects = (format : ℕ) (aspect : TextureAspect) → InStandard format aspect → (chosenAspects format aspect ≡ aspectsOf format) ↔ W.NamesAll format aspect

@@ -1,7 +1,7 @@
 -- The W3C WebGPU specification's own rules on copies, in its words and order, apart from the planner's definitions. Section
 -- titles are the specification's. Its numbers are unbounded: nothing wraps.
 use mathlib.Core.Path.{_≡_}
-use mathlib.Core.Bool.{Bool, true, false, _&&_}
+use mathlib.Core.Bool.{Bool, true, false, _&&_, _||_}
 use mathlib.Core.List.{List, [], _∷_}
 use mathlib.Core.Logic.{_⊎_}
 use Prim.Native.Nat.{ℕ, _+_, _-_, _*_, _/_, _%_, _^_, _≤_, _<_, max}
@@ -18,7 +18,7 @@ use Rattle.levels.specs.declared.TextureDimension.{TextureDimension}
 use Rattle.levels.specs.declared.TextureDimension.the-variants.{D1, D2, D3}
 use Rattle.levels.specs.Level.{dimensionOf}
 use Rattle.formats.specs.declared.TextureAspect.{TextureAspect}
-use Rattle.formats.specs.Sheet.{blockWidth, blockHeight, isDepthStencil}
+use Rattle.formats.specs.Sheet.{blockWidth, blockHeight, aspectsOf, isDepthStencil}
 use Rattle.formats.specs.Aspects.{chosenAspects}
 use Rattle.records.specs.declared.Buffer.{Buffer}
 use Rattle.records.specs.declared.Texture.{Texture}
@@ -198,3 +198,33 @@ pub record CopyBufferToBuffer (same : Bool) (src dst : Buffer) (srcOffset dstOff
   pub dst-aligned : dstOffset % 4 ≡ 0
   pub src-inside : srcOffset + size ≤ src .size
   pub dst-inside : dstOffset + size ≤ dst .size
+
+-- ---- "copyTextureToTexture()"
+
+-- formats that differ only in srgb: rgba8unorm, bgra8unorm, bc1-rgba-unorm, bc7-rgba-unorm, and the srgb of each
+unfoldable pub srgbPairs : List (ℕ × ℕ)
+srgbPairs = (2, 3) ∷ (4, 5) ∷ (11, 12) ∷ (13, 14) ∷ []
+
+unfoldable pub paired : List (ℕ × ℕ) → ℕ → ℕ → Bool
+paired [] a b = false
+paired (p ∷ ps) a b = (eqb (p .0) a && eqb (p .1) b) || paired ps a b
+
+-- "copy-compatible": equal, or differing only in srgb
+unfoldable pub copyCompatible : ℕ → ℕ → Bool
+copyCompatible a b = eqb a b || (paired srgbPairs a b || paired srgbPairs b a)
+
+-- of a depth-stencil format all of its aspects are named
+abbrev pub NamesAll : ℕ → TextureAspect → Type 0
+NamesAll format aspect = isDepthStencil format ≡ true → chosenAspects format aspect ≡ aspectsOf format
+
+-- `same` where both are one texture, whose record is the source's
+pub record CopyTextureToTexture (same : Bool) (src dst : Texture) (from to : TexelCopyTextureInfo) (copySize : Extent3d) : Type 0 where
+  pub src-part : TexelCopyTexture src from copySize
+  pub dst-part : TexelCopyTexture dst to copySize
+  pub src-usage : holds (src .usage .0) 1 ≡ true
+  pub dst-usage : holds (dst .usage .0) 2 ≡ true
+  pub samples : src .«sample_count» ≡ dst .«sample_count»
+  pub compatible : copyCompatible (src .format) (dst .format) ≡ true
+  pub src-aspects : NamesAll (src .format) (from .aspect)
+  pub dst-aspects : NamesAll (dst .format) (to .aspect)
+  pub disjoint : same ≡ true → Disjoint src from to copySize

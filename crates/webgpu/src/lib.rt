@@ -1,6 +1,6 @@
 // The planner's rules against the WebGPU standard's own. No code runs here: each function's contract is a claim, and the
 // check asks for its proof.
-ghost use Rattle.webgpu.specs.Agreement.{LogicalExtents, PhysicalExtents, LevelCounts, Ranges, LinearRules, BufferCopies, SameTexture};
+ghost use Rattle.webgpu.specs.Agreement.{LogicalExtents, PhysicalExtents, LevelCounts, Ranges, LinearRules, BufferCopies, SameTexture, CompatibleFormats, AllAspects};
 
 // Level sizes and level counts are the standard's.
 pub fn extents_agree()
@@ -27,4 +27,10 @@ pub fn buffer_copies_agree()
 // A 2D texture is copied onto itself exactly where the standard's sets of subresources are disjoint.
 pub fn same_texture_agrees()
     ensures { λ _. ⌜ SameTexture ⌝ }
+{}
+
+// Formats are copied into one another, and their aspects chosen, as the standard has it.
+pub fn formats_agree()
+    ensures compatible { λ _. ⌜ CompatibleFormats ⌝ }
+    ensures aspects { λ _. ⌜ AllAspects ⌝ }
 {}

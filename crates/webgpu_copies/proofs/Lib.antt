@@ -2,3 +2,4 @@ pub mod Lines
 pub mod Buffers
 pub mod Small
 pub mod Textures
+pub mod TextureCopies

@@ -2,11 +2,16 @@
 -- Assumes nothing.
 use mathlib.Core.Path.{_≡_, refl}
 use mathlib.Core.Bool.{Bool, true, false}
+use Prim.Native.Nat.{ℕ}
 use Rattle.checks.specs.Checks.{stop-if}
 use Rattle.refusals.specs.declared.TransferError.{TransferError}
 use Rattle.refusals.specs.declared.Checked.{Checked}
 use Rattle.refusals.specs.declared.Checked.the-variants as C
 use Rattle.refusals.specs.Answers.{after}
+use Rattle.ranges.specs.declared.CopyExtent.{CopyExtent}
+use Rattle.ranges.specs.declared.RangeChecked.{RangeChecked}
+use Rattle.ranges.specs.declared.RangeChecked.the-variants as N
+use Rattle.copies.specs.Copies.{after-range}
 
 module _ (R : Type 0) (refused : TransferError → R) (Good : R → Type 0) where
   pub past-line : (t : Bool) (e : TransferError) (rest : R) → (Good (refused e) → ⊥) → Good (stop-if t (refused e) rest) → (t ≡ false) × Good rest
@@ -26,3 +31,12 @@ module _ (R : Type 0) (refused : TransferError → R) (Good : R → Type 0) wher
   pub by-rule : (m : Checked) (rest : R) → m ≡ C.GoOn → Good rest → Good (after m refused rest)
   unfolding after
   by-rule m rest h g = rw h g
+
+  pub past-range : (m : RangeChecked) (k : CopyExtent → ℕ → R) → ((e : TransferError) → Good (refused e) → ⊥) → Good (after-range m refused k) → (v : CopyExtent) × (n : ℕ) × (m ≡ N.GoOn v n) × Good (k v n)
+  unfolding after-range
+  past-range (N.GoOn v n) k fails g = (v, n, refl, g)
+  past-range (N.Refused e) k fails g = absurd (fails e g)
+
+  pub by-range : (m : RangeChecked) (k : CopyExtent → ℕ → R) (v : CopyExtent) (n : ℕ) → m ≡ N.GoOn v n → Good (k v n) → Good (after-range m refused k)
+  unfolding after-range
+  by-range m k v n h g = rw h g

@@ -36,13 +36,14 @@ use Rattle.selectors.specs.Selector.{selectorOf, baseOf, selectedOf, selectorCh
 use Rattle.init.specs.Init.{srcTextureRange, dstTextureRange}
 use Rattle.buffer_texture.specs.declared.BufferTexturePlanned.{BufferTexturePlanned}
 use Rattle.buffer_texture.specs.declared.BufferTexturePlanned.the-variants as T
-use Rattle.buffer_texture.specs.Plan.{after-range, after-selector, after-linear, planOf, lacksDepthFact, uploadPlaced, uploadAllowed, uploadRanged, bufferToTexture, downloadPlaced, downloadAllowed, downloadRanged, textureToBuffer}
+use Rattle.copies.specs.Copies.{after-range, after-selector}
+use Rattle.buffer_texture.specs.Plan.{after-linear, planOf, lacksDepthFact, uploadPlaced, uploadAllowed, uploadRanged, bufferToTexture, downloadPlaced, downloadAllowed, downloadRanged, textureToBuffer}
 use Rattle.webgpu.specs.Agreement.{GoesOn, formatRule}
 use Rattle.webgpu.proofs.TextureRanges.{ranges}
 use Rattle.webgpu.proofs.Linears.{linear-rules}
 use Rattle.webgpu.proofs.Tables.{buffer-copies}
 use Rattle.webgpu_copies.specs.WholeCopies.{Copy, planned, GivesPlan, bufferUsage, textureUsage, StandardCopy, Reached, Agrees}
-use Rattle.webgpu_copies.proofs.Lines.{past-line, by-line, past-rule, by-rule}
+use Rattle.webgpu_copies.proofs.Lines.{past-line, by-line, past-rule, by-rule, past-range, by-range}
 use Rattle.webgpu_copies.proofs.Buffers.{buffer-goes}
 use Rattle.webgpu_copies.proofs.Small.{figures-of}
 
@@ -63,14 +64,11 @@ passed m rest g = past-rule BufferTexturePlanned T.Refused (λ r. GivesPlan r) m
 pass : (m : Checked) (rest : BufferTexturePlanned) → m ≡ C.GoOn → GivesPlan rest → GivesPlan (after m T.Refused rest)
 pass m rest h g = by-rule BufferTexturePlanned T.Refused (λ r. GivesPlan r) m rest h g
 
-ranged : (m : RangeChecked) (k : CopyExtent → ℕ → BufferTexturePlanned) → GivesPlan (after-range m k) → (v : CopyExtent) × (n : ℕ) × (m ≡ R.GoOn v n) × GivesPlan (k v n)
-unfolding after-range
-ranged (R.GoOn v n) k g = (v, n, refl, g)
-ranged (R.Refused e) k g = absurd (no-plan e g)
+ranged : (m : RangeChecked) (k : CopyExtent → ℕ → BufferTexturePlanned) → GivesPlan (after-range m T.Refused k) → (v : CopyExtent) × (n : ℕ) × (m ≡ R.GoOn v n) × GivesPlan (k v n)
+ranged m k g = past-range BufferTexturePlanned T.Refused (λ r. GivesPlan r) m k no-plan g
 
-range-by : (m : RangeChecked) (k : CopyExtent → ℕ → BufferTexturePlanned) (v : CopyExtent) (n : ℕ) → m ≡ R.GoOn v n → GivesPlan (k v n) → GivesPlan (after-range m k)
-unfolding after-range
-range-by m k v n h g = rw h g
+range-by : (m : RangeChecked) (k : CopyExtent → ℕ → BufferTexturePlanned) (v : CopyExtent) (n : ℕ) → m ≡ R.GoOn v n → GivesPlan (k v n) → GivesPlan (after-range m T.Refused k)
+range-by m k v n h g = by-range BufferTexturePlanned T.Refused (λ r. GivesPlan r) m k v n h g
 
 laid : (m : LinearChecked) (k : LinearData → BufferTexturePlanned) → GivesPlan (after-linear m k) → (s : LinearData) × (m ≡ L.GoOn s) × GivesPlan (k s)
 unfolding after-linear
@@ -83,7 +81,7 @@ lay m k s h g = rw h g
 
 -- ---- rules whose answer the hypotheses settle
 
-texture-goes : (t : Texture) (side : CopySide) → textureInBounds t ≡ true → textureChecked t side ≡ C.GoOn
+pub texture-goes : (t : Texture) (side : CopySide) → textureInBounds t ≡ true → textureChecked t side ≡ C.GoOn
 unfolding textureChecked
 texture-goes t side h = goes-past Checked (not (textureInBounds t)) (C.Refused (E.InvalidTextureRecord side)) C.GoOn (not-no (textureInBounds t) h)
 
@@ -97,7 +95,7 @@ selector-goes : (c : Copy) → Reached c → selectorChecked (c .view) (c .textu
 unfolding selectorChecked selectedOf
 selector-goes c r = goes-past SelectorChecked (eqb (chosenFor c) 0) (S.Refused (E.InvalidTextureAspect (c .texture .format) (c .view .aspect))) (S.GoOn (selectorOf (c .view) (c .texture) (c .size)) (baseFor c)) (r .in-standard .chosen)
 
-selected : (c : Copy) → Reached c → (k : TextureCopyBase → BufferTexturePlanned) → after-selector (selectorChecked (c .view) (c .texture) (c .size)) k ≡ k (baseFor c)
+selected : (c : Copy) → Reached c → (k : TextureCopyBase → BufferTexturePlanned) → after-selector (selectorChecked (c .view) (c .texture) (c .size)) T.Refused k ≡ k (baseFor c)
 unfolding after-selector
 selected c r k = rw (selector-goes c r)
 

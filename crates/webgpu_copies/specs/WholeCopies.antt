@@ -14,6 +14,8 @@ use Rattle.records.specs.declared.Texture.{Texture}
 use Rattle.records.specs.declared.TexelCopyTextureInfo.{TexelCopyTextureInfo}
 use Rattle.records.specs.declared.TexelCopyBufferLayout.{TexelCopyBufferLayout}
 use Rattle.records.specs.Bounds.{bufferInBounds, textureInBounds}
+use Rattle.levels.specs.declared.TextureDimension.the-variants.{D2}
+use Rattle.levels.specs.Level.{dimensionOf}
 use Rattle.linear.specs.Linear.{blockBytes}
 use Rattle.buffer_copies.specs.declared.BufferPlan.{BufferPlan}
 use Rattle.buffer_copies.specs.declared.BufferPlanned.{BufferPlanned}
@@ -23,6 +25,11 @@ use Rattle.buffer_texture.specs.declared.BufferTexturePlan.{BufferTexturePlan}
 use Rattle.buffer_texture.specs.declared.BufferTexturePlanned.{BufferTexturePlanned}
 use Rattle.buffer_texture.specs.declared.BufferTexturePlanned.the-variants as T
 use Rattle.buffer_texture.specs.Plan.{lacksDepthFact, bufferToTexture, textureToBuffer}
+use Rattle.texture_copies.specs.declared.TextureSide.{TextureSide}
+use Rattle.texture_copies.specs.declared.TexturePlan.{TexturePlan}
+use Rattle.texture_copies.specs.declared.TexturePlanned.{TexturePlanned}
+use Rattle.texture_copies.specs.declared.TexturePlanned.the-variants as X
+use Rattle.texture_copies.specs.Plan.{textureToTexture}
 use Rattle.webgpu.specs.WebGpu as W
 use Rattle.webgpu.specs.Agreement as A
 
@@ -103,3 +110,29 @@ UploadAgrees = Agrees false
 
 abbrev pub DownloadAgrees : Type 0
 DownloadAgrees = Agrees true
+
+-- ---- texture to texture
+
+abbrev pub GivesTexturePlan : TexturePlanned → Type 0
+GivesTexturePlan r = (p : TexturePlan) × (r ≡ X.Plan p)
+
+-- exceptions on one side
+pub record SideReached (side : TextureSide) (size : Extent3d) : Type 0 where
+  -- the records' bounds are ours
+  pub bounds : textureInBounds (side .texture) ≡ true
+  -- a depth-stencil or multisampled texture has every layer copied, which the Rust does not ask
+  pub all-layers : A.AllLayers (side .texture) (side .view) size
+  -- NV12 and its planes are not in the standard, and an aspect that the format lacks is refused by 12
+  pub in-standard : A.InStandard (side .texture .format) (side .view .aspect)
+
+pub record TexturesReached (same : Bool) (src dst : TextureSide) (size : Extent3d) : Type 0 where
+  pub source : SideReached src size
+  pub destination : SideReached dst size
+  -- a 1D or 3D texture onto itself: the standard has one subresource for a level, the Rust compares z
+  pub two-dimensions : same ≡ true → dimensionOf (src .texture .dimension) ≡ D2
+
+abbrev pub TextureToTexture : Type 0
+TextureToTexture =
+    (i j : ℕ) (src dst : TextureSide) (size : Extent3d) → TexturesReached (eqb i j) src dst size
+    → GivesTexturePlan (textureToTexture i src j dst size)
+    ↔ W.CopyTextureToTexture (eqb i j) (src .texture) (dst .texture) (src .view) (dst .view) size

@@ -1,7 +1,8 @@
 -- `copy_buffer_to_texture` meets its contract.
 -- Assumes nothing.
 use borrow.Author.Needs.{needs}
-use Rattle.buffer_texture.proofs.Rules.{planned, buffer-passed, texture-passed}
+use Rattle.copies.proofs.Rules.{buffer-passed, texture-passed}
+use Rattle.buffer_texture.proofs.Rules.{planned}
 use Rattle.refusals.specs.declared.CopySide.the-variants.{Source, Destination}
 use Rattle.buffer_texture.specs.Plan.{bufferToTexture}
 use Rattle.buffer_texture.proofs.copy_buffer_to_texture.Statement.{statement}

@@ -1,7 +1,8 @@
 -- `copy_texture_to_texture` meets its contract.
 -- Assumes nothing.
 use borrow.Author.Needs.{needs}
-use Rattle.texture_copies.proofs.Rules.{planned, texture-passed}
+use Rattle.copies.proofs.Rules.{texture-passed}
+use Rattle.texture_copies.proofs.Rules.{planned}
 use Rattle.refusals.specs.declared.CopySide.the-variants.{Source, Destination}
 use Rattle.texture_copies.specs.Plan.{textureToTexture}
 use Rattle.texture_copies.proofs.copy_texture_to_texture.Statement.{statement}

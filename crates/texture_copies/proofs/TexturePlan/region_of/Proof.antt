@@ -9,4 +9,4 @@ pub region-of-spec : {M : Type 1} → statement M
 unfolding regionOf
 region-of-spec =
     tie.close
-    (tie.spec (λ c. search needs) (λ c κs. search needs) (λ c. search needs) (λ c κs. search needs) (λ c. search needs) (λ c κs. search needs) (λ c. cc) (λ c. cc) (λ c. cc))
+    (tie.spec (λ c. search needs) (λ c κs. search needs) (λ c. search needs) (λ c κs. search needs) (λ c. search needs) (λ c κs. search needs) (λ c. rw (c .before .enum-told .given .1) (c .whole .ensures)) (λ c. rw (c .before .enum-told2 .given .1) (c .depth-or-stencil .ensures)) (λ c. rw (c .before .enum-told3 .given .1) (c .plane .ensures)))

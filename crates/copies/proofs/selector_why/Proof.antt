@@ -2,9 +2,9 @@
 -- Assumes nothing.
 use mathlib.Core.Path.{sym, ap}
 use borrow.Author.Needs.{needs}
-use Rattle.texture_copies.specs.Plan.{selectorWhy}
-use Rattle.texture_copies.proofs.selector_why.Statement.{statement}
-use Rattle.texture_copies.proofs.selector_why.Tie as tie
+use Rattle.copies.specs.Copies.{selectorWhy}
+use Rattle.copies.proofs.selector_why.Statement.{statement}
+use Rattle.copies.proofs.selector_why.Tie as tie
 
 pub selector-why-spec : {M : Type 1} → statement M
 unfolding selectorWhy

@@ -2,9 +2,9 @@
 -- Assumes nothing.
 use mathlib.Core.Path.{sym, ap}
 use borrow.Author.Needs.{needs}
-use Rattle.buffer_texture.specs.Plan.{rangeWhy}
-use Rattle.buffer_texture.proofs.range_why.Statement.{statement}
-use Rattle.buffer_texture.proofs.range_why.Tie as tie
+use Rattle.copies.specs.Copies.{rangeWhy}
+use Rattle.copies.proofs.range_why.Statement.{statement}
+use Rattle.copies.proofs.range_why.Tie as tie
 
 pub range-why-spec : {M : Type 1} → statement M
 unfolding rangeWhy
