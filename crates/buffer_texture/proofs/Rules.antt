@@ -1,7 +1,7 @@
 -- How the checks of a copy between a buffer and a texture go on after a rule's answer was taken apart.
 -- Assumes nothing.
-use mathlib.Core.Path.{_≡_, refl, sym, ap, _∙_}
-use mathlib.Core.Bool.{Bool, true}
+use mathlib.Core.Path.{_≡_, sym, ap, _∙_}
+use mathlib.Core.Bool.{true}
 use Prim.Native.Nat.{ℕ, _+_, _^_, _<_}
 use native.Mathlib.Omega.{arith}
 use Rattle.measures.specs.declared.Extent3d.{Extent3d}
@@ -17,15 +17,11 @@ use Rattle.linear.specs.declared.LinearChecked.{LinearChecked}
 use Rattle.linear.specs.declared.LinearChecked.the-variants as L
 use Rattle.linear.specs.Linear.{denseOf, dataOf, linearData}
 use Rattle.linear.proofs.Accepted.{every-linear}
-use Rattle.init.specs.declared.TextureInitRange.{TextureInitRange}
-use Rattle.init.specs.declared.BufferInitRanges.{BufferInitRanges}
 use Rattle.copies.proofs.Rules.{copied}
-use Rattle.buffer_texture.specs.declared.BufferTextureCopy.{BufferTextureCopy}
-use Rattle.buffer_texture.specs.declared.CopyRanges.{CopyRanges}
-use Rattle.buffer_texture.specs.declared.BufferTexturePlan.{BufferTexturePlan}
+use Rattle.buffer_texture_plans.specs.declared.BufferTexturePlan.{BufferTexturePlan}
 use Rattle.buffer_texture.specs.declared.BufferTexturePlanned.{BufferTexturePlanned}
 use Rattle.buffer_texture.specs.declared.BufferTexturePlanned.the-variants as P
-use Rattle.buffer_texture.specs.Plan.{after-linear, linearWhy, rangesOf}
+use Rattle.buffer_texture.specs.Plan.{after-linear, linearWhy}
 
 module _ (r m : LinearChecked) (k : LinearData → BufferTexturePlanned) where
   pub linear-goes : (x : BufferTexturePlanned) (s : LinearData) → r ≡ m → r ≡ L.GoOn s → x ≡ k s → x ≡ after-linear m k
@@ -42,14 +38,6 @@ planned-alike p q e = ap P.Plan e
 
 pub ruleset planned = (copied, linear-goes, linear-stops, planned-alike)
 
--- a plan by its parts
-pub built :
-    {r r′ : BufferTextureCopy} {n n′ : ℕ} {g g′ : CopyRanges} (s t : ℕ) → r ≡ r′ → n ≡ n′ → g ≡ g′
-    → _≡_ {A = BufferTexturePlan}
-    (record { region = r; stride = s; left = n; ranges = g; «bytes_checked» = t })
-    (record { region = r′; stride = s; left = n′; ranges = g′; «bytes_checked» = t })
-built s t p q h = cc
-
 -- ---- what callees need
 
 -- an accepted copy ends far below 2 ^ 63
@@ -61,6 +49,3 @@ end-fits r layout format aspect b side size s bound p q =
     let l = every-linear .rule layout (b .size) side (denseOf format aspect size) .went-on s (sym p ∙ q) in
     let bytes = ap (λ (d : LinearData). d .«bytes_in_copy») (l .1) in
     omega (arith, l .0 .inside, bytes, buffer-laws b bound)
-
-pub ranges-alike : (e e′ : Bool) (t : TextureInitRange) (b b′ : BufferInitRanges) → e ≡ e′ → b ≡ b′ → rangesOf e t b ≡ rangesOf e′ t b′
-ranges-alike e e′ t b b′ p q = cc

@@ -1,12 +1,11 @@
 -- Copies between a buffer and a texture: the checks in their order, and the plan.
-use Prim.Native.Nat.{ℕ, _+_}
-use mathlib.Core.Bool.{Bool, true, false, _&&_, not}
+use Prim.Native.Nat.{ℕ}
+use mathlib.Core.Bool.{Bool, true, _&&_, not}
 use lib.Dec.{leb}
-use Rattle.checks.specs.Checks.{pick, stop-if, _$_}
+use Rattle.checks.specs.Checks.{stop-if, _$_}
 use Rattle.measures.specs.declared.Extent3d.{Extent3d}
 use Rattle.flags.specs.Flags.{holds}
 use Rattle.formats.specs.Sheet.{isDepthStencil}
-use Rattle.refusals.specs.declared.CopySide.{CopySide}
 use Rattle.refusals.specs.declared.CopySide.the-variants.{Source, Destination}
 use Rattle.refusals.specs.declared.DownlevelFlags.the-variants.{DepthTextureAndBufferCopies}
 use Rattle.refusals.specs.declared.TransferError.{TransferError}
@@ -27,15 +26,9 @@ use Rattle.linear.specs.Linear.{linearData}
 use Rattle.format_rules.specs.Rules.{srcFormat, dstFormat, textureBufferCopy}
 use Rattle.selectors.specs.declared.TextureCopyBase.{TextureCopyBase}
 use Rattle.selectors.specs.Selector.{selectorChecked}
-use Rattle.init.specs.declared.TextureInitRange.{TextureInitRange}
-use Rattle.init.specs.declared.BufferInitRanges.{BufferInitRanges}
-use Rattle.init.specs.declared.OptionRange.the-variants.{Absent}
-use Rattle.init.specs.Init.{srcTextureRange, dstTextureRange, bufferInit}
-use Rattle.copies.specs.Copies.{after-range, after-selector, isEmpty}
-use Rattle.buffer_texture.specs.declared.BufferTextureCopy.{BufferTextureCopy}
-use Rattle.buffer_texture.specs.declared.CopyRanges.{CopyRanges}
-use Rattle.buffer_texture.specs.declared.CopyRanges.the-variants as N
-use Rattle.buffer_texture.specs.declared.BufferTexturePlan.{BufferTexturePlan}
+use Rattle.init.specs.Init.{srcTextureRange, dstTextureRange}
+use Rattle.copies.specs.Copies.{after-range, after-selector}
+use Rattle.buffer_texture_plans.specs.Plan.{planOf}
 use Rattle.buffer_texture.specs.declared.BufferTexturePlanned.{BufferTexturePlanned}
 use Rattle.buffer_texture.specs.declared.BufferTexturePlanned.the-variants as P
 
@@ -48,33 +41,6 @@ after-linear (L.Refused e) rest = P.Refused e
 unfoldable pub linearWhy : LinearChecked → TransferError
 linearWhy (L.GoOn span) = E.SizeOverflow
 linearWhy (L.Refused e) = e
-
--- ---- the plan
-
-unfoldable pub firstRegion : TexelCopyBufferLayout → TextureCopyBase → CopyExtent → BufferTextureCopy
-firstRegion layout base extent =
-    record {
-      offset = layout .offset;
-      «bytes_per_row» = layout .«bytes_per_row»;
-      «rows_per_image» = layout .«rows_per_image»;
-      base = base;
-      size = extent;
-    }
-
--- the texture's range, then the buffer's; none where the copy is empty
-unfoldable pub rangesOf : Bool → TextureInitRange → BufferInitRanges → CopyRanges
-rangesOf empty texture buffer = pick empty N.Absent (N.Given texture buffer)
-
--- a region for each layer, each an image stride on; none where the copy is empty
-unfoldable pub planOf : TexelCopyBufferLayout → Extent3d → CopyExtent → ℕ → TextureCopyBase → LinearData → CopySide → TextureInitRange → BufferTexturePlan
-planOf layout size extent layers base span side texture =
-    record {
-      region = firstRegion layout base extent;
-      stride = span .«image_stride»;
-      left = pick (isEmpty size) 0 layers;
-      ranges = rangesOf (isEmpty size) texture (bufferInit (layout .offset) side (span .«bytes_in_copy») (span .«is_contiguous»));
-      «bytes_checked» = span .«bytes_in_copy»;
-    }
 
 -- 34: a depth-stencil format without the fact
 unfoldable pub lacksDepthFact : Device → ℕ → Bool

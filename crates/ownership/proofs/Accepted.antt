@@ -52,11 +52,12 @@ use Rattle.selectors.specs.declared.TextureCopyBase.{TextureCopyBase}
 use Rattle.selectors.specs.declared.SelectorChecked.{SelectorChecked}
 use Rattle.selectors.specs.declared.SelectorChecked.the-variants as S
 use Rattle.selectors.specs.Selector.{selectorOf, baseOf, selectedOf, selectorChecked}
-use Rattle.buffer_texture.specs.declared.BufferTexturePlan.{BufferTexturePlan}
+use Rattle.buffer_texture_plans.specs.declared.BufferTexturePlan.{BufferTexturePlan}
 use Rattle.buffer_texture.specs.declared.BufferTexturePlanned.{BufferTexturePlanned}
 use Rattle.buffer_texture.specs.declared.BufferTexturePlanned.the-variants as P
 use Rattle.copies.specs.Copies.{after-range, after-selector}
-use Rattle.buffer_texture.specs.Plan.{after-linear, planOf, lacksDepthFact, uploadPlaced, uploadAllowed, uploadRanged, bufferToTexture, downloadPlaced, downloadAllowed, downloadRanged, textureToBuffer}
+use Rattle.buffer_texture_plans.specs.Plan.{planOf}
+use Rattle.buffer_texture.specs.Plan.{after-linear, lacksDepthFact, uploadPlaced, uploadAllowed, uploadRanged, bufferToTexture, downloadPlaced, downloadAllowed, downloadRanged, textureToBuffer}
 use Rattle.ownership.specs.Copy.{Copy, planned, dimension, depth, blockW, blockH, bytes, wide, high, dense, row, rows, image, imageBytes, total, bufferSide, textureRange}
 use Rattle.ownership.proofs.Formats.{formatRule, block-has-bytes}
 

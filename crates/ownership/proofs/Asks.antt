@@ -8,12 +8,12 @@ use native.Mathlib.Nat.{suc-mul, mod-eq-of-lt}
 use borrow.Author.Tests.{eq-eqb, ne-eqb}
 use Rattle.checks.specs.Checks.{stop-if}
 use Rattle.selectors.specs.Selector.{layerOf}
-use Rattle.buffer_texture.specs.declared.BufferTextureCopy.{BufferTextureCopy}
-use Rattle.buffer_texture.specs.declared.BufferTexturePlan.{BufferTexturePlan}
-use Rattle.buffer_texture.specs.declared.AskedBufferTexture.{AskedBufferTexture}
-use Rattle.buffer_texture.specs.declared.NextBufferTextureCopy.the-variants.{Region, NoneLeft}
+use Rattle.buffer_texture_plans.specs.declared.BufferTextureCopy.{BufferTextureCopy}
+use Rattle.buffer_texture_plans.specs.declared.BufferTexturePlan.{BufferTexturePlan}
+use Rattle.buffer_texture_plans.specs.declared.AskedBufferTexture.{AskedBufferTexture}
+use Rattle.buffer_texture_plans.specs.declared.NextBufferTextureCopy.the-variants.{Region, NoneLeft}
 use Rattle.copies.specs.Copies.{nextLayer}
-use Rattle.buffer_texture.specs.Asking.{moved, advanced, nextOf}
+use Rattle.buffer_texture_plans.specs.Asking.{moved, advanced, nextOf}
 use Rattle.ownership.specs.Copy.{Copy, dimension, image, regionAt, regionsFrom}
 use Rattle.ownership.specs.Demand3.{Gives, ended, gave}
 

@@ -21,11 +21,11 @@ use Rattle.selectors.specs.Selector.{layerOf, baseOf}
 use Rattle.init.specs.declared.MemoryInitKind.the-variants.{ImplicitlyInitialized, NeedsInitializedMemory}
 use Rattle.init.specs.declared.BufferInitRanges.{BufferInitRanges}
 use Rattle.init.specs.Init.{isSource, outward, inward, bufferInit, listed}
-use Rattle.buffer_texture.specs.declared.BufferTextureCopy.{BufferTextureCopy}
-use Rattle.buffer_texture.specs.declared.BufferTexturePlan.{BufferTexturePlan}
-use Rattle.buffer_texture.specs.declared.CopyRanges.the-variants.{Given}
+use Rattle.buffer_texture_plans.specs.declared.BufferTextureCopy.{BufferTextureCopy}
+use Rattle.buffer_texture_plans.specs.declared.BufferTexturePlan.{BufferTexturePlan}
+use Rattle.buffer_texture_plans.specs.declared.CopyRanges.the-variants.{Given}
 use Rattle.copies.specs.Copies.{isEmpty}
-use Rattle.buffer_texture.specs.Plan.{firstRegion, rangesOf, planOf}
+use Rattle.buffer_texture_plans.specs.Plan.{firstRegion, rangesOf, planOf}
 use Rattle.ownership.specs.Copy.{Copy, dimension, depth, bytes, wide, high, row, rows, image, imageBytes, total, contiguous, regionAt, regionsOf, bufferSide, textureRange, bufferRanges}
 use Rattle.ownership.specs.Demand3.{Block, Owned, Between, Beside, Reported, Gives, NamedBy, Demand3, EveryCopy}
 use Rattle.ownership.proofs.Blocks as blocks

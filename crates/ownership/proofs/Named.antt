@@ -10,7 +10,7 @@ use Rattle.levels.specs.declared.TextureDimension.{TextureDimension}
 use Rattle.levels.specs.declared.TextureDimension.the-variants.{D1, D2, D3}
 use Rattle.ranges.specs.Range.{depthOf, layersOf}
 use Rattle.selectors.specs.Selector.{layerOf, zOf}
-use Rattle.buffer_texture.specs.declared.BufferTextureCopy.{BufferTextureCopy}
+use Rattle.buffer_texture_plans.specs.declared.BufferTextureCopy.{BufferTextureCopy}
 use Rattle.ownership.specs.Copy.{Copy, dimension, depth, blockW, blockH, wide, high, image, regionAt, regionsFrom}
 use Rattle.ownership.specs.Demand3.{Block, InBox, Within, Names, NamedBy, puts, placeOf, firstByte, layerAt, depthAt}
 use Rattle.ownership.proofs.Sound.{Sound, limit}

@@ -19,7 +19,7 @@ use Rattle.records.specs.Bounds.{textureInBounds, fieldsInBounds, samplesInBoun
 use Rattle.records.specs.Extents.{logicalExtent, physicalExtent}
 use Rattle.records.proofs.Bounded.{buffer-laws, texture-laws}
 use Rattle.linear.specs.Linear.{denseOf}
-use Rattle.buffer_texture.specs.declared.BufferTexturePlan.{BufferTexturePlan}
+use Rattle.buffer_texture_plans.specs.declared.BufferTexturePlan.{BufferTexturePlan}
 use Rattle.ownership.specs.Copy.{Copy, dimension, depth, blockW, blockH, bytes, wide, high, dense, row, rows, image, imageBytes, total}
 use Rattle.ownership.proofs.Formats.{block-has-bytes}
 use Rattle.ownership.proofs.Accepted.{Checks}

@@ -21,7 +21,7 @@ use Rattle.selectors.specs.Selector.{layerOf, zOf}
 use Rattle.init.specs.declared.TextureInitRange.{TextureInitRange}
 use Rattle.init.specs.declared.BufferInitRanges.{BufferInitRanges}
 use Rattle.init.specs.Init.{srcTextureRange, dstTextureRange, bufferInit}
-use Rattle.buffer_texture.specs.declared.BufferTextureCopy.{BufferTextureCopy}
+use Rattle.buffer_texture_plans.specs.declared.BufferTextureCopy.{BufferTextureCopy}
 use Rattle.buffer_texture.specs.declared.BufferTexturePlanned.{BufferTexturePlanned}
 use Rattle.buffer_texture.specs.Plan.{bufferToTexture, textureToBuffer}
 

@@ -14,12 +14,12 @@ use Rattle.init.specs.declared.MemoryInitKind.{MemoryInitKind}
 use Rattle.init.specs.declared.MemoryInitKind.the-variants.{ImplicitlyInitialized, NeedsInitializedMemory}
 use Rattle.init.specs.declared.BufferInitRange.{BufferInitRange}
 use Rattle.init.specs.Init.{listed}
-use Rattle.buffer_texture.specs.declared.BufferTextureCopy.{BufferTextureCopy}
-use Rattle.buffer_texture.specs.declared.BufferTexturePlan.{BufferTexturePlan}
+use Rattle.buffer_texture_plans.specs.declared.BufferTextureCopy.{BufferTextureCopy}
+use Rattle.buffer_texture_plans.specs.declared.BufferTexturePlan.{BufferTexturePlan}
 use Rattle.buffer_texture.specs.declared.BufferTexturePlanned.the-variants.{Plan}
-use Rattle.buffer_texture.specs.declared.CopyRanges.the-variants.{Given}
-use Rattle.buffer_texture.specs.declared.NextBufferTextureCopy.the-variants.{Region, NoneLeft}
-use Rattle.buffer_texture.specs.Asking.{nextOf}
+use Rattle.buffer_texture_plans.specs.declared.CopyRanges.the-variants.{Given}
+use Rattle.buffer_texture_plans.specs.declared.NextBufferTextureCopy.the-variants.{Region, NoneLeft}
+use Rattle.buffer_texture_plans.specs.Asking.{nextOf}
 use Rattle.ownership.specs.Copy.{Copy, planned, dimension, depth, blockW, blockH, bytes, wide, high, row, image, total, regionAt, regionsOf, textureRange, bufferRanges}
 
 -- ---- who owns a byte

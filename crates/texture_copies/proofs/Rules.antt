@@ -1,11 +1,9 @@
 -- How the checks of a copy between textures go on after a rule's answer was taken apart.
 -- Assumes nothing.
 use mathlib.Core.Path.{_≡_, sym, ap, _∙_}
-use mathlib.Core.Bool.{Bool, true}
-use Prim.Native.Nat.{ℕ, _+_, _*_, _^_, _≤_, _<_}
+use mathlib.Core.Bool.{true}
+use Prim.Native.Nat.{ℕ, _^_, _≤_, _<_}
 use native.Mathlib.Omega.{arith}
-use native.Mathlib.Nat.{mul-le-mul-left}
-use Rattle.checks.specs.Checks.{pick}
 use Rattle.measures.specs.declared.Extent3d.{Extent3d}
 use Rattle.measures.specs.Measure.{physicalSize}
 use Rattle.formats.specs.declared.TextureAspect.{TextureAspect}
@@ -26,28 +24,15 @@ use Rattle.ranges.specs.declared.RangeChecked.{RangeChecked}
 use Rattle.ranges.specs.declared.RangeChecked.the-variants as R
 use Rattle.ranges.specs.Range.{layersOf, arrayLayerCount, rangeChecked}
 use Rattle.ranges.proofs.Accepted.{every-range}
-use Rattle.selectors.specs.declared.TextureCopyBase.{TextureCopyBase}
 use Rattle.copies.proofs.Rules.{copied}
-use Rattle.texture_copies.specs.declared.CopyParts.{CopyParts}
-use Rattle.texture_copies.specs.declared.TextureRanges.{TextureRanges}
-use Rattle.texture_copies.specs.declared.TexturePlan.{TexturePlan}
-use Rattle.texture_copies.specs.declared.TexturePlanned.{TexturePlanned}
+use Rattle.texture_plans.specs.declared.TexturePlan.{TexturePlan}
 use Rattle.texture_copies.specs.declared.TexturePlanned.the-variants as P
-use Rattle.texture_copies.specs.Plan.{partCount}
 
 -- a plan that a function gave
 pub planned-alike : (p q : TexturePlan) → p ≡ q → P.Plan p ≡ P.Plan q
 planned-alike p q e = ap P.Plan e
 
 pub ruleset planned = (copied, planned-alike)
-
--- a plan by its parts
-pub built :
-    (a b : TextureCopyBase) {e e′ : CopyExtent} {p p′ : CopyParts} {n n′ : ℕ} {g g′ : TextureRanges} (k : ℕ) → e ≡ e′ → p ≡ p′ → n ≡ n′ → g ≡ g′
-    → _≡_ {A = TexturePlan}
-    (record { src = a; dst = b; size = e; parts = p; part = k; left = n; ranges = g })
-    (record { src = a; dst = b; size = e′; parts = p′; part = k; left = n′; ranges = g′ })
-built a b k h i j l = cc
 
 -- ---- what callees need
 
@@ -75,10 +60,3 @@ layers-few r view t side size v n bound p q =
     let deep = texture-laws t bound .level-sized (view .«mip_level») .depth-few in
     let some = few (dimensionOf (t .dimension)) (size .«depth_or_array_layers») (omega (arith, l .0 .z-inside)) in
     omega (arith, l .2)
-
--- two parts of each of them are few
-pub regions-fit : (layers count : ℕ) → layers < 2 ^ 16 → count ≤ 2 → layers * count < 2 ^ 32
-regions-fit layers count h c = let p : layers * count ≤ layers * 2 = mul-le-mul-left layers c in omega arith
-
-pub counts-alike : (e e′ : Bool) (p p′ : CopyParts) (layers : ℕ) → e ≡ e′ → p ≡ p′ → pick e 0 (layers * partCount p) ≡ pick e′ 0 (layers * partCount p′)
-counts-alike e e′ p p′ layers h k = cc

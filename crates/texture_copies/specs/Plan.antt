@@ -1,14 +1,13 @@
 -- Copies from texture to texture: the checks in their order, and the plan.
-use Prim.Native.Nat.{ℕ, _*_, _/_, min}
-use mathlib.Core.Bool.{Bool, true, false, _&&_, not}
+use Prim.Native.Nat.{ℕ, _/_}
+use mathlib.Core.Bool.{Bool, false, _&&_, not}
 use lib.Dec.{eqb}
-use Rattle.checks.specs.Checks.{pick, stop-if, _$_}
+use Rattle.checks.specs.Checks.{stop-if, _$_}
 use Rattle.measures.specs.declared.Extent3d.{Extent3d}
 use Rattle.measures.specs.declared.OptionU32.{OptionU32}
 use Rattle.measures.specs.declared.OptionU32.the-variants as O
 use Rattle.flags.specs.Flags.{holds}
-use Rattle.formats.specs.declared.TextureAspect.{TextureAspect}
-use Rattle.formats.specs.Sheet.{aspectsOf, isCombinedDepthStencil, isMultiPlanar, removeSrgb}
+use Rattle.formats.specs.Sheet.{aspectsOf, removeSrgb}
 use Rattle.formats.specs.Aspects.{aspectSpecificFormat, subsamplingFactor}
 use Rattle.refusals.specs.declared.CopySide.the-variants.{Source, Destination}
 use Rattle.refusals.specs.declared.TextureErrorDimension.the-variants.{X, Y}
@@ -16,62 +15,17 @@ use Rattle.refusals.specs.declared.TransferError.the-variants as E
 use Rattle.refusals.specs.declared.Checked.{Checked}
 use Rattle.refusals.specs.declared.Checked.the-variants as C
 use Rattle.refusals.specs.Answers.{after}
-use Rattle.records.specs.declared.Texture.{Texture}
-use Rattle.records.specs.declared.TexelCopyTextureInfo.{TexelCopyTextureInfo}
 use Rattle.records.specs.Bounds.{textureChecked}
 use Rattle.records.specs.Extents.{logicalExtent}
 use Rattle.ranges.specs.declared.CopyExtent.{CopyExtent}
 use Rattle.ranges.specs.Range.{subjectOf, dimensionChecked, rangeChecked}
 use Rattle.selectors.specs.declared.TextureCopyBase.{TextureCopyBase}
 use Rattle.selectors.specs.Selector.{selectorChecked, sameTextureChecked}
-use Rattle.init.specs.declared.TextureInitRange.{TextureInitRange}
-use Rattle.init.specs.Init.{srcTextureRange, dstTextureRange}
-use Rattle.copies.specs.Copies.{after-range, after-selector, isEmpty}
-use Rattle.texture_copies.specs.declared.TextureSide.{TextureSide}
-use Rattle.texture_copies.specs.declared.CopyParts.{CopyParts}
-use Rattle.texture_copies.specs.declared.CopyParts.the-variants.{Whole, DepthStencil, Planes}
-use Rattle.texture_copies.specs.declared.TextureRanges.{TextureRanges}
-use Rattle.texture_copies.specs.declared.TextureRanges.the-variants as N
-use Rattle.texture_copies.specs.declared.TexturePlan.{TexturePlan}
+use Rattle.copies.specs.Copies.{after-range, after-selector}
+use Rattle.texture_plans.specs.declared.TextureSide.{TextureSide}
+use Rattle.texture_plans.specs.Plan.{planOf}
 use Rattle.texture_copies.specs.declared.TexturePlanned.{TexturePlanned}
 use Rattle.texture_copies.specs.declared.TexturePlanned.the-variants as P
-
--- ---- the plan
-
--- each size is the lesser of both sides
-unfoldable pub lesser : CopyExtent → CopyExtent → CopyExtent
-lesser a b = record { width = min (a .width) (b .width); height = min (a .height) (b .height); depth = min (a .depth) (b .depth) }
-
--- a combined depth-stencil format is copied as depth, then stencil; a planar one as plane 0, then plane 1
-unfoldable pub partsOf : ℕ → CopyParts
-partsOf format =
-    stop-if (isCombinedDepthStencil format) DepthStencil $
-    stop-if (isMultiPlanar format) Planes $
-    Whole
-
-unfoldable pub partCount : CopyParts → ℕ
-partCount Whole = 1
-partCount DepthStencil = 2
-partCount Planes = 2
-
--- the source's range, then the destination's; none where the copy is empty
-unfoldable pub rangesOf : Bool → TextureInitRange → TextureInitRange → TextureRanges
-rangesOf empty src dst = pick empty N.Absent (N.Given src dst)
-
--- a region for each part of each source layer; none where the copy is empty
-unfoldable pub planOf : TextureSide → TextureSide → Extent3d → CopyExtent → CopyExtent → ℕ → TextureCopyBase → TextureCopyBase → TexturePlan
-planOf src dst size srcExtent dstExtent layers srcBase dstBase =
-    record {
-      src = srcBase;
-      dst = dstBase;
-      size = lesser srcExtent dstExtent;
-      parts = partsOf (dst .texture .format);
-      part = 0;
-      left = pick (isEmpty size) 0 (layers * partCount (partsOf (dst .texture .format)));
-      ranges = rangesOf (isEmpty size) (srcTextureRange (src .view) (src .texture) size) (dstTextureRange (dst .view) (dst .texture) size);
-    }
-
--- ---- the checks
 
 -- given, and this number
 unfoldable pub isThis : OptionU32 → ℕ → Bool

@@ -36,10 +36,11 @@ use Rattle.selectors.specs.declared.SelectorChecked.{SelectorChecked}
 use Rattle.selectors.specs.declared.SelectorChecked.the-variants as S
 use Rattle.selectors.specs.Selector.{selectorOf, baseOf, selectedOf, selectorChecked, sameTextureChecked}
 use Rattle.copies.specs.Copies.{after-range, after-selector}
-use Rattle.texture_copies.specs.declared.TextureSide.{TextureSide}
+use Rattle.texture_plans.specs.declared.TextureSide.{TextureSide}
 use Rattle.texture_copies.specs.declared.TexturePlanned.{TexturePlanned}
 use Rattle.texture_copies.specs.declared.TexturePlanned.the-variants as X
-use Rattle.texture_copies.specs.Plan.{planOf, isThis, isPlaneSplit, formatsDiffer, planeChecked, withinOne, usable, selectedCopy, rangedCopy, textureToTexture}
+use Rattle.texture_plans.specs.Plan.{planOf}
+use Rattle.texture_copies.specs.Plan.{isThis, isPlaneSplit, formatsDiffer, planeChecked, withinOne, usable, selectedCopy, rangedCopy, textureToTexture}
 use Rattle.webgpu.specs.WebGpu.{Disjoint, copyCompatible, CopyTextureToTexture}
 use Rattle.webgpu.specs.Agreement.{GoesOn, InStandard}
 use Rattle.webgpu.proofs.TextureRanges.{ranges}

@@ -37,7 +37,8 @@ use Rattle.init.specs.Init.{srcTextureRange, dstTextureRange}
 use Rattle.buffer_texture.specs.declared.BufferTexturePlanned.{BufferTexturePlanned}
 use Rattle.buffer_texture.specs.declared.BufferTexturePlanned.the-variants as T
 use Rattle.copies.specs.Copies.{after-range, after-selector}
-use Rattle.buffer_texture.specs.Plan.{after-linear, planOf, lacksDepthFact, uploadPlaced, uploadAllowed, uploadRanged, bufferToTexture, downloadPlaced, downloadAllowed, downloadRanged, textureToBuffer}
+use Rattle.buffer_texture_plans.specs.Plan.{planOf}
+use Rattle.buffer_texture.specs.Plan.{after-linear, lacksDepthFact, uploadPlaced, uploadAllowed, uploadRanged, bufferToTexture, downloadPlaced, downloadAllowed, downloadRanged, textureToBuffer}
 use Rattle.webgpu.specs.Agreement.{GoesOn, formatRule}
 use Rattle.webgpu.proofs.TextureRanges.{ranges}
 use Rattle.webgpu.proofs.Linears.{linear-rules}

@@ -3,7 +3,7 @@
 use mathlib.Core.Path.{ap, _∙_}
 use borrow.Author.Needs.{needs}
 use Rattle.init.specs.declared.TextureInitRange.{TextureInitRange}
-use Rattle.buffer_texture.specs.Plan.{planOf}
+use Rattle.buffer_texture_plans.specs.Plan.{planOf}
 use Rattle.refusals.specs.declared.CopySide.the-variants.{Source}
 use Rattle.buffer_texture.proofs.upload_plan.Statement.{statement}
 use Rattle.buffer_texture.proofs.upload_plan.Tie as tie

@@ -1,0 +1,173 @@
+// The plan of a copy between a buffer and a texture, asked for its regions one by one.
+ghost use mathlib.Core.Path.{_≡_};
+ghost use Prim.Native.Nat.{_+_, _^_, _<_};
+ghost use Rattle.checks.specs.Checks.{pick};
+ghost use Rattle.buffer_texture_plans.specs.Plan.{firstRegion, rangesOf, planOf};
+ghost use Rattle.buffer_texture_plans.specs.Asking.{moved, advanced, nextOf};
+use init::BufferInitRanges;
+use init::TextureInitRange;
+use linear::LinearData;
+use measures::Extent3d;
+use measures::OptionU32;
+use ranges::CopyExtent;
+use records::TexelCopyBufferLayout;
+use refusals::CopySide;
+use selectors::TextureCopyBase;
+
+// A region: what the encoder is handed.
+pub struct BufferTextureCopy {
+    pub offset: u64,
+    pub bytes_per_row: OptionU32,
+    pub rows_per_image: OptionU32,
+    pub base: TextureCopyBase,
+    pub size: CopyExtent,
+}
+
+// The texture's range, then the buffer's.
+pub enum CopyRanges {
+    Given(TextureInitRange, BufferInitRanges),
+    Absent,
+}
+
+// The next region, the bytes from one to the next, how many are left, the ranges, and the bytes checked.
+pub struct BufferTexturePlan {
+    pub region: BufferTextureCopy,
+    pub stride: u64,
+    pub left: u32,
+    pub ranges: CopyRanges,
+    pub bytes_checked: u64,
+}
+
+pub enum NextBufferTextureCopy {
+    Region(BufferTextureCopy),
+    NoneLeft,
+}
+
+pub struct AskedBufferTexture {
+    pub answer: NextBufferTextureCopy,
+    pub plan: BufferTexturePlan,
+}
+
+fn first_region(
+    layout: TexelCopyBufferLayout,
+    base: TextureCopyBase,
+    extent: CopyExtent,
+) -> BufferTextureCopy
+    ensures { λ r. ⌜ r ≡ firstRegion layout base extent ⌝ }
+{
+    let bytes_per_row = layout.bytes_per_row;
+    let rows_per_image = layout.rows_per_image;
+    BufferTextureCopy {
+        offset: layout.offset,
+        bytes_per_row,
+        rows_per_image,
+        base,
+        size: extent,
+    }
+}
+
+fn ranges_of(empty: bool, texture: TextureInitRange, buffer: BufferInitRanges) -> CopyRanges
+    ensures { λ r. ⌜ r ≡ rangesOf empty texture buffer ⌝ }
+{
+    if empty {
+        return CopyRanges::Absent;
+    }
+    CopyRanges::Given(texture, buffer)
+}
+
+fn count_of(empty: bool, layers: u32) -> u32
+    ensures { λ r. ⌜ r ≡ pick empty 0 layers ⌝ }
+{
+    if empty {
+        return 0;
+    }
+    layers
+}
+
+// The plan of a copy that has passed its checks.
+pub fn plan_of(
+    layout: TexelCopyBufferLayout,
+    size: Extent3d,
+    extent: CopyExtent,
+    layers: u32,
+    base: TextureCopyBase,
+    span: LinearData,
+    side: CopySide,
+    texture: TextureInitRange,
+) -> BufferTexturePlan
+    requires { ⌜ layout .offset + span .«bytes_in_copy» < 2 ^ 63 ⌝ }
+    ensures { λ r. ⌜ r ≡ planOf layout size extent layers base span side texture ⌝ }
+{
+    let empty = copies::is_empty(size);
+    let region = first_region(layout, base, extent);
+    let left = count_of(empty, layers);
+    let buffer = init::handle_buffer_init(
+        layout.offset,
+        side,
+        span.bytes_in_copy,
+        span.is_contiguous,
+    );
+    let ranges = ranges_of(empty, texture, buffer);
+    BufferTexturePlan {
+        region,
+        stride: span.image_stride,
+        left,
+        ranges,
+        bytes_checked: span.bytes_in_copy,
+    }
+}
+
+impl BufferTextureCopy {
+    fn moved(self, stride: u64) -> BufferTextureCopy
+        ensures { λ r. ⌜ r ≡ moved self stride ⌝ }
+    {
+        let bytes_per_row = self.bytes_per_row;
+        let rows_per_image = self.rows_per_image;
+        let base = self.base;
+        let size = self.size;
+        let on = copies::next_layer(base);
+        BufferTextureCopy {
+            offset: std::num::wrapping_add_u64(self.offset, stride),
+            bytes_per_row,
+            rows_per_image,
+            base: on,
+            size,
+        }
+    }
+}
+
+impl BufferTexturePlan {
+    fn advance(self) -> BufferTexturePlan
+        requires { ⌜ 0 < self .left ⌝ }
+        ensures { λ r. ⌜ r ≡ advanced self ⌝ }
+    {
+        let region = self.region;
+        let ranges = self.ranges;
+        let on = region.moved(self.stride);
+        BufferTexturePlan {
+            region: on,
+            stride: self.stride,
+            left: self.left - 1,
+            ranges,
+            bytes_checked: self.bytes_checked,
+        }
+    }
+
+    // The next region and the plan behind it; past the last none, and the plan as it is.
+    pub fn next(self) -> AskedBufferTexture
+        ensures { λ r. ⌜ r ≡ nextOf self ⌝ }
+    {
+        if self.left == 0 {
+            return AskedBufferTexture {
+                answer: NextBufferTextureCopy::NoneLeft,
+                plan: self,
+            };
+        }
+        let region = self.region;
+        let plan = self.advance();
+        AskedBufferTexture {
+            answer: NextBufferTextureCopy::Region(region),
+            plan,
+        }
+    }
+}
