@@ -1,0 +1,329 @@
+// A copy of any of the four kinds, with the records that it names: its plan and ranges, or its refusal.
+ghost use mathlib.Core.Path.{_≡_};
+ghost use mathlib.Core.List.{[]};
+ghost use Rattle.requests.specs.Requests.{ofBuffers, ofBufferTexture, ofTextures, plannedBuffers, plannedUpload, plannedDownload, plannedTextures, plannedOf};
+ghost use Prim.Native.Nat.{_≤_};
+ghost use Rattle.requests.specs.Ranges.{bufferSlot, noRanges, bufferRanges, textureAndBuffer, copyRanges, twoTextures, textureRanges, slotCount, countOf};
+use buffer_copies::BufferPlan;
+use buffer_copies::BufferPlanned;
+use buffer_texture::BufferTexturePlanned;
+use buffer_texture_plans::BufferTexturePlan;
+use buffer_texture_plans::CopyRanges;
+use init::BufferInitRange;
+use init::BufferInitRanges;
+use init::OptionRange;
+use init::TextureInitRange;
+use measures::Extent3d;
+use measures::OptionU64;
+use plans::Plan;
+use records::Buffer;
+use records::Device;
+use records::TexelCopyBufferLayout;
+use records::TexelCopyTextureInfo;
+use records::Texture;
+use refusals::TransferError;
+use texture_copies::TexturePlanned;
+use texture_plans::TexturePlan;
+use texture_plans::TextureRanges;
+use texture_plans::TextureSide;
+
+// A copy between buffers, which are told apart by their indices.
+pub struct BufferRequest {
+    pub device: Device,
+    pub src_index: u32,
+    pub src: Buffer,
+    pub src_offset: u64,
+    pub dst_index: u32,
+    pub dst: Buffer,
+    pub dst_offset: u64,
+    pub size: OptionU64,
+}
+
+// A copy between a buffer and a texture, either way.
+pub struct BufferTextureRequest {
+    pub device: Device,
+    pub buffer_index: u32,
+    pub buffer: Buffer,
+    pub layout: TexelCopyBufferLayout,
+    pub texture_index: u32,
+    pub texture: Texture,
+    pub view: TexelCopyTextureInfo,
+    pub size: Extent3d,
+}
+
+// A copy between textures, which are told apart by their indices.
+pub struct TextureRequest {
+    pub src_index: u32,
+    pub src: TextureSide,
+    pub dst_index: u32,
+    pub dst: TextureSide,
+    pub size: Extent3d,
+}
+
+pub enum Request {
+    BufferToBuffer(BufferRequest),
+    BufferToTexture(BufferTextureRequest),
+    TextureToBuffer(BufferTextureRequest),
+    TextureToTexture(TextureRequest),
+}
+
+// A range of the texture or the buffer of an index, or none.
+pub enum RangeSlot {
+    Texture(u32, TextureInitRange),
+    Buffer(u32, BufferInitRange),
+    Absent,
+}
+
+// The ranges of a copy in their order, with slots between them that may be absent.
+pub struct Ranges {
+    pub first: RangeSlot,
+    pub second: RangeSlot,
+    pub third: RangeSlot,
+    pub fourth: RangeSlot,
+}
+
+pub enum Planned {
+    Plan(Plan, Ranges),
+    Refused(TransferError),
+}
+
+fn buffer_slot(buffer: u32, range: OptionRange) -> RangeSlot
+    ensures { λ r. ⌜ r ≡ bufferSlot buffer range ⌝ }
+{
+    match range {
+        OptionRange::Given(r) => RangeSlot::Buffer(buffer, r),
+        OptionRange::Absent => RangeSlot::Absent,
+    }
+}
+
+fn no_ranges() -> Ranges
+    ensures { λ r. ⌜ r ≡ noRanges ⌝ }
+{
+    Ranges {
+        first: RangeSlot::Absent,
+        second: RangeSlot::Absent,
+        third: RangeSlot::Absent,
+        fourth: RangeSlot::Absent,
+    }
+}
+
+fn buffer_ranges(src: u32, dst: u32, plan: BufferPlan) -> Ranges
+    ensures { λ r. ⌜ r ≡ bufferRanges src dst plan ⌝ }
+{
+    let written = plan.dst_range;
+    let read = plan.src_range;
+    let first = buffer_slot(dst, written);
+    let second = buffer_slot(src, read);
+    Ranges {
+        first,
+        second,
+        third: RangeSlot::Absent,
+        fourth: RangeSlot::Absent,
+    }
+}
+
+fn texture_and_buffer(texture: u32, t: TextureInitRange, buffer: u32, b: BufferInitRanges) -> Ranges
+    ensures { λ r. ⌜ r ≡ textureAndBuffer texture t buffer b ⌝ }
+{
+    let head = b.head;
+    let whole = b.whole;
+    let tail = b.tail;
+    let second = buffer_slot(buffer, head);
+    let third = buffer_slot(buffer, whole);
+    let fourth = buffer_slot(buffer, tail);
+    Ranges {
+        first: RangeSlot::Texture(texture, t),
+        second,
+        third,
+        fourth,
+    }
+}
+
+fn copy_ranges(texture: u32, buffer: u32, ranges: CopyRanges) -> Ranges
+    ensures { λ r. ⌜ r ≡ copyRanges texture buffer ranges ⌝ }
+{
+    match ranges {
+        CopyRanges::Given(t, b) => texture_and_buffer(texture, t, buffer, b),
+        CopyRanges::Absent => no_ranges(),
+    }
+}
+
+fn two_textures(src: u32, s: TextureInitRange, dst: u32, d: TextureInitRange) -> Ranges
+    ensures { λ r. ⌜ r ≡ twoTextures src s dst d ⌝ }
+{
+    Ranges {
+        first: RangeSlot::Texture(src, s),
+        second: RangeSlot::Texture(dst, d),
+        third: RangeSlot::Absent,
+        fourth: RangeSlot::Absent,
+    }
+}
+
+fn texture_ranges(src: u32, dst: u32, ranges: TextureRanges) -> Ranges
+    ensures { λ r. ⌜ r ≡ textureRanges src dst ranges ⌝ }
+{
+    match ranges {
+        TextureRanges::Given(s, d) => two_textures(src, s, dst, d),
+        TextureRanges::Absent => no_ranges(),
+    }
+}
+
+fn ranges_of_copy(texture: u32, buffer: u32, plan: BufferTexturePlan) -> Ranges
+    ensures { λ r. ⌜ r ≡ copyRanges texture buffer (plan .ranges) ⌝ }
+{
+    let ranges = plan.ranges;
+    copy_ranges(texture, buffer, ranges)
+}
+
+fn ranges_of_textures(src: u32, dst: u32, plan: TexturePlan) -> Ranges
+    ensures { λ r. ⌜ r ≡ textureRanges src dst (plan .ranges) ⌝ }
+{
+    let ranges = plan.ranges;
+    texture_ranges(src, dst, ranges)
+}
+
+fn of_buffers(src: u32, dst: u32, answer: BufferPlanned) -> Planned
+    ensures { λ r. ⌜ r ≡ ofBuffers src dst answer ⌝ }
+{
+    match answer {
+        BufferPlanned::Plan(plan) => {
+            Planned::Plan(Plan::Buffers(plan), buffer_ranges(src, dst, plan))
+        },
+        BufferPlanned::Refused(why) => Planned::Refused(why),
+    }
+}
+
+fn of_buffer_texture(texture: u32, buffer: u32, answer: BufferTexturePlanned) -> Planned
+    ensures { λ r. ⌜ r ≡ ofBufferTexture texture buffer answer ⌝ }
+{
+    match answer {
+        BufferTexturePlanned::Plan(plan) => {
+            Planned::Plan(
+                Plan::BufferTexture(plan),
+                ranges_of_copy(texture, buffer, plan),
+            )
+        },
+        BufferTexturePlanned::Refused(why) => Planned::Refused(why),
+    }
+}
+
+fn of_textures(src: u32, dst: u32, answer: TexturePlanned) -> Planned
+    ensures { λ r. ⌜ r ≡ ofTextures src dst answer ⌝ }
+{
+    match answer {
+        TexturePlanned::Plan(plan) => {
+            Planned::Plan(Plan::Textures(plan), ranges_of_textures(src, dst, plan))
+        },
+        TexturePlanned::Refused(why) => Planned::Refused(why),
+    }
+}
+
+fn plan_buffers(r: BufferRequest) -> Planned
+    ensures { λ p. ⌜ p ≡ plannedBuffers r ⌝ }
+{
+    let device = r.device;
+    let src = r.src;
+    let dst = r.dst;
+    let size = r.size;
+    let answer = buffer_copies::copy_buffer_to_buffer(
+        device,
+        r.src_index,
+        src,
+        r.src_offset,
+        r.dst_index,
+        dst,
+        r.dst_offset,
+        size,
+    );
+    of_buffers(r.src_index, r.dst_index, answer)
+}
+
+fn plan_upload(r: BufferTextureRequest) -> Planned
+    ensures { λ p. ⌜ p ≡ plannedUpload r ⌝ }
+{
+    let device = r.device;
+    let buffer = r.buffer;
+    let layout = r.layout;
+    let texture = r.texture;
+    let view = r.view;
+    let size = r.size;
+    let answer = buffer_texture::copy_buffer_to_texture(
+        device,
+        buffer,
+        layout,
+        texture,
+        view,
+        size,
+    );
+    of_buffer_texture(r.texture_index, r.buffer_index, answer)
+}
+
+fn plan_download(r: BufferTextureRequest) -> Planned
+    ensures { λ p. ⌜ p ≡ plannedDownload r ⌝ }
+{
+    let device = r.device;
+    let buffer = r.buffer;
+    let layout = r.layout;
+    let texture = r.texture;
+    let view = r.view;
+    let size = r.size;
+    let answer = buffer_texture::copy_texture_to_buffer(
+        device,
+        texture,
+        view,
+        buffer,
+        layout,
+        size,
+    );
+    of_buffer_texture(r.texture_index, r.buffer_index, answer)
+}
+
+fn plan_textures(r: TextureRequest) -> Planned
+    ensures { λ p. ⌜ p ≡ plannedTextures r ⌝ }
+{
+    let src = r.src;
+    let dst = r.dst;
+    let size = r.size;
+    let answer = texture_copies::copy_texture_to_texture(r.src_index, src, r.dst_index, dst, size);
+    of_textures(r.src_index, r.dst_index, answer)
+}
+
+// The plan of a copy, or its refusal.
+pub fn plan_copy(request: Request) -> Planned
+    ensures { λ r. ⌜ r ≡ plannedOf request ⌝ }
+{
+    match request {
+        Request::BufferToBuffer(r) => plan_buffers(r),
+        Request::BufferToTexture(r) => plan_upload(r),
+        Request::TextureToBuffer(r) => plan_download(r),
+        Request::TextureToTexture(r) => plan_textures(r),
+    }
+}
+
+fn slot_count(slot: RangeSlot) -> u32
+    ensures { λ r. ⌜ r ≡ slotCount slot ⌝ }
+    ensures few { λ r. ⌜ r ≤ 1 ⌝ }
+{
+    match slot {
+        RangeSlot::Texture(_, _) => 1,
+        RangeSlot::Buffer(_, _) => 1,
+        RangeSlot::Absent => 0,
+    }
+}
+
+impl Ranges {
+    // How many ranges there are.
+    pub fn count(self) -> u32
+        ensures { λ r. ⌜ r ≡ countOf self ⌝ }
+    {
+        let first = self.first;
+        let second = self.second;
+        let third = self.third;
+        let fourth = self.fourth;
+        let a = slot_count(first);
+        let b = slot_count(second);
+        let c = slot_count(third);
+        let d = slot_count(fourth);
+        a + b + c + d
+    }
+}

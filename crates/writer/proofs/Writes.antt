@@ -1,0 +1,168 @@
+-- Laws of the regions that are written. Assumes nothing.
+use mathlib.Core.Path.{_≡_, refl, sym, ap, _∙_}
+use mathlib.Core.Bool.{Bool, true, false, not}
+use mathlib.Core.List.{List, [], _++_}
+use Prim.Native.Nat.{ℕ, zero, suc, _+_, _-_, _*_, _^_, _≤_, _<_}
+use native.Mathlib.Omega.{arith}
+use native.Mathlib.Nat.{suc-mul, add-comm, mul-le-mul-left}
+use borrow.Author.Tests.{ne-eqb, leb-true, not-true, not-false}
+use lib.Dec.{leb}
+use lib.ListN.{length, take, getD, List·getD-append}
+use lib.Seq.{sets, getD-append-add}
+use Rattle.checks.specs.Checks.{stop-if}
+use Rattle.refusals.specs.declared.TransferError.the-variants.{RegionSliceTooShort}
+use Rattle.refusals.specs.declared.Checked.the-variants as C
+use Rattle.texts.specs.Text.{Put}
+use Rattle.texts.proofs.Puts.{sets-append, put-as, put-length}
+use Rattle.rows.specs.Rows.{rowOf, bufferCopyNumbers, bufferTextureCopyNumbers, textureCopyNumbers}
+use Rattle.buffer_copies.specs.BufferCopies as K
+use Rattle.buffer_texture_plans.specs.Asking as L
+use Rattle.texture_plans.specs.Asking as X
+use Rattle.rows.proofs.Fronts.{row-count, row-numbers, row-inside}
+use Rattle.plans.specs.declared.Plan.{Plan}
+use Rattle.plans.specs.declared.AskedRow.{AskedRow}
+use Rattle.plans.specs.declared.Plan.the-variants.{Buffers, BufferTexture, Textures}
+use Rattle.plans.specs.Regions.{leftOf, fieldsOf, bufferNumbers, bufferTextureNumbers, textureNumbers, numbersOf, behindOf, nextOf}
+use Rattle.plans.proofs.Behind.{behind-left}
+use Rattle.writer.specs.Writing.{numbersFrom, numbersLeft, behindAll, fits, slotsOf, writtenOf, EveryEntry}
+
+-- ---- one region
+
+some : {n : ℕ} → 0 < n → n ≡ 0 → ⊥
+some h e = omega arith
+
+module _ where
+  -- a plan that has a region left gives as many numbers as a region has
+  pub numbers-count : (p : Plan) → 0 < leftOf p → length (numbersOf p) ≡ fieldsOf p
+  unfolding leftOf fieldsOf numbersOf K.nextOf L.nextOf X.nextOf stop-if bufferNumbers bufferTextureNumbers textureNumbers bufferCopyNumbers bufferTextureCopyNumbers textureCopyNumbers
+  numbers-count (Buffers p) h = rw (ne-eqb (p .left) 0 (some h))
+  numbers-count (BufferTexture p) h = rw (ne-eqb (p .left) 0 (some h))
+  numbers-count (Textures p) h = rw (ne-eqb (p .left) 0 (some h))
+
+  pub behind-fields : (p : Plan) → fieldsOf (behindOf p) ≡ fieldsOf p
+  unfolding fieldsOf behindOf
+  behind-fields (Buffers p) = refl
+  behind-fields (BufferTexture p) = refl
+  behind-fields (Textures p) = refl
+
+  pub fields-few : (p : Plan) → fieldsOf p ≤ 15
+  unfolding fieldsOf
+  fields-few (Buffers p) = omega arith
+  fields-few (BufferTexture p) = omega arith
+  fields-few (Textures p) = omega arith
+
+-- ---- the loop: finishing from here gives what the whole gives
+
+module _ (l₀ l : List ℕ) (p₀ p : Plan) (at left : ℕ) where
+  pub record Underway : Type 0 where
+    pub left-is : leftOf p ≡ left
+    pub room : at + left * fieldsOf p ≤ length l
+    pub same : length l ≡ length l₀
+    pub plan : behindAll left p ≡ behindAll (leftOf p₀) p₀
+    pub slots : sets l at (numbersFrom left p) ≡ sets l₀ 0 (numbersLeft p₀)
+
+pub begun : (l : List ℕ) (p : Plan) (left : ℕ) → left ≡ leftOf p → leftOf p * fieldsOf p ≤ length l → Underway l l p p 0 left
+unfolding numbersLeft
+begun l p left e h = rw e (record { left-is = refl; room = omega arith; same = refl; plan = refl; slots = refl })
+
+module _ {l₀ l : List ℕ} {p₀ p : Plan} {at left : ℕ} (u : Underway l₀ l p₀ p at left) (h : 0 < left) where
+  pub region-fields : length (numbersOf p) ≡ fieldsOf p
+  region-fields = numbers-count p (omega (arith, u .left-is))
+
+  pub region-few : length (numbersOf p) ≤ 15
+  region-few = omega (arith, region-fields, fields-few p)
+
+  one-of : left * fieldsOf p ≡ fieldsOf p + (left - 1) * fieldsOf p
+  one-of = let e : left ≡ suc (left - 1) = omega arith in ap (λ (n : ℕ). n * fieldsOf p) e ∙ suc-mul (left - 1) (fieldsOf p) ∙ add-comm ((left - 1) * fieldsOf p) (fieldsOf p)
+
+  pub region-room : at + length (numbersOf p) ≤ length l
+  region-room = omega (arith, region-fields, one-of, u .room)
+
+  -- the row that was asked for holds the region's numbers
+  module _ (asked : AskedRow) (e : asked ≡ nextOf p) where
+    row-is : asked .row ≡ rowOf (numbersOf p)
+    unfolding nextOf
+    row-is = ap (λ (a : AskedRow). a .row) e
+
+    plan-is : asked .plan ≡ behindOf p
+    unfolding nextOf
+    plan-is = ap (λ (a : AskedRow). a .plan) e
+
+    pub row-held : asked .row .count ≤ length (asked .row .values)
+    row-held = row-inside (numbersOf p) region-few (asked .row) row-is
+
+    pub row-room : at + asked .row .count ≤ length l
+    row-room = omega (arith, row-count (numbersOf p) region-few (asked .row) row-is, region-room)
+
+    pub again : (m : List ℕ) (r : ℕ) → Put l m at (take (asked .row .count) (asked .row .values)) r → Underway l₀ m p₀ (asked .plan) r (left - 1)
+    unfolding numbersFrom behindAll
+    again m r put =
+        let o : Put l m at (numbersOf p) r = put-as put (row-numbers (numbersOf p) region-few (asked .row) row-is) in
+        let n : left ≡ suc (left - 1) = omega arith in
+        let b : behindAll left p ≡ behindAll (left - 1) (behindOf p) = ap (λ (k : ℕ). behindAll k p) n in
+        let f : numbersFrom left p ≡ numbersOf p ++ numbersFrom (left - 1) (behindOf p) = ap (λ (k : ℕ). numbersFrom k p) n in
+        rw plan-is
+        (record {
+          left-is = behind-left p (omega (arith, u .left-is)) ∙ ap (λ (k : ℕ). k - 1) (u .left-is);
+          room = rw (behind-fields p) (omega (arith, region-fields, one-of, u .room, o .next, put-length o));
+          same = put-length o ∙ u .same;
+          plan = sym b ∙ u .plan;
+          slots = rw (o .next, o .bytes) (sym (sets-append (numbersOf p) (numbersFrom (left - 1) (behindOf p)) l at) ∙ sym (ap (λ (ns : List ℕ). sets l at ns) f) ∙ u .slots);
+        })
+
+pub ended : {l₀ l : List ℕ} {p₀ p : Plan} {at left : ℕ} → Underway l₀ l p₀ p at left → left ≤ 0 → (p ≡ behindAll (leftOf p₀) p₀) × (l ≡ sets l₀ 0 (numbersLeft p₀))
+unfolding numbersFrom behindAll
+ended {l = l} {p = p} {at = at} {left = left} u h =
+    let z : left ≡ 0 = omega arith in
+    let b : behindAll left p ≡ p = ap (λ (k : ℕ). behindAll k p) z in
+    let f : numbersFrom left p ≡ [] = ap (λ (k : ℕ). numbersFrom k p) z in
+    (sym b ∙ u .plan, sym (ap (λ (ns : List ℕ). sets l at ns) f) ∙ u .slots)
+
+-- ---- room
+
+pub product-fits : (left fields : ℕ) → left < 2 ^ 32 → fields ≤ 15 → left * fields < 2 ^ 64
+product-fits left fields h f = let p : left * fields ≤ left * 15 = mul-le-mul-left left f in omega arith
+
+pub fits-by : (p : Plan) (left fields room : ℕ) → left ≡ leftOf p → fields ≡ fieldsOf p → leb (left * fields) room ≡ fits p room
+unfolding fits
+fits-by p left fields room e f = rw (e, f)
+
+-- ---- where each number stands
+
+entry :
+    (n k f : ℕ) (p : Plan) → leftOf p ≡ n → k < n → f < fieldsOf p
+    → getD (numbersFrom n p) (k * fieldsOf p + f) 0 ≡ getD (numbersOf (behindAll k p)) f 0
+unfolding numbersFrom behindAll
+entry zero k f p e h g = absurd (omega arith)
+entry (suc n) zero f p e h g =
+    let c : length (numbersOf p) ≡ fieldsOf p = numbers-count p (omega (arith, e)) in
+    let z : 0 * fieldsOf p + f ≡ f = omega arith in
+    rw z (List·getD-append (numbersOf p) (numbersFrom n (behindOf p)) 0 f (omega (arith, c)))
+entry (suc n) (suc k) f p e h g =
+    let some : 0 < leftOf p = omega (arith, e) in
+    let c : length (numbersOf p) ≡ fieldsOf p = numbers-count p some in
+    let z : suc k * fieldsOf p + f ≡ length (numbersOf p) + (k * fieldsOf p + f) = omega (arith, c, suc-mul k (fieldsOf p)) in
+    let left : leftOf (behindOf p) ≡ n = behind-left p some ∙ omega (arith, e) in
+    let on = entry n k f (behindOf p) left (omega arith) (rw (behind-fields p) g) in
+    rw z (getD-append-add (numbersOf p) (numbersFrom n (behindOf p)) (k * fieldsOf p + f) 0 ∙ ap (λ (w : ℕ). getD (numbersFrom n (behindOf p)) (k * w + f) 0) (sym (behind-fields p)) ∙ on)
+
+pub every-entry : EveryEntry
+unfolding numbersLeft
+every-entry p k f h g = entry (leftOf p) k f p refl h g
+
+-- ---- the whole
+
+pub long-enough : (p : Plan) (n : ℕ) (room : Bool) → room ≡ fits p n → not room ≡ false → leftOf p * fieldsOf p ≤ n
+unfolding fits
+long-enough p n room is h = leb-true _ _ (sym is ∙ not-false room h)
+
+module _ (p : Plan) (l : List ℕ) (room : Bool) (is : room ≡ fits p (length l)) where
+  pub too-short : not room ≡ true → (record { answer = C.Refused RegionSliceTooShort; plan = p } ≡ writtenOf p (length l)) × (l ≡ slotsOf p l)
+  unfolding writtenOf slotsOf
+  too-short h = let no = not-true room h in (rw (← is, no), rw (← is, no))
+
+  pub written :
+      (m : List ℕ) (q : Plan) → not room ≡ false → (q ≡ behindAll (leftOf p) p) × (m ≡ sets l 0 (numbersLeft p))
+      → (record { answer = C.GoOn; plan = q } ≡ writtenOf p (length l)) × (m ≡ slotsOf p l)
+  unfolding writtenOf slotsOf
+  written m q h e = let yes = not-false room h in (rw (← is, yes, e .0), rw (← is, yes) (e .1))

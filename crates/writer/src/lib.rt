@@ -1,0 +1,103 @@
+// Writes the regions left of a plan into a lent slice.
+ghost use mathlib.Core.Path.{_≡_};
+ghost use Prim.Native.Nat.{_+_, _*_, _≤_};
+ghost use lib.ListN.{length, take};
+ghost use lib.Seq.{sets};
+ghost use Rattle.texts.specs.Text.{Put};
+ghost use Rattle.plans.specs.Regions.{leftOf, fieldsOf};
+ghost use Rattle.writer.specs.Writing.{numbersLeft, behindAll, fits, slotsOf, writtenOf, EveryEntry};
+use plans::Plan;
+use refusals::Checked;
+use refusals::TransferError;
+use rows::Row;
+
+// Whether the regions were written, and the plan behind them; 38 and the plan as it is where the slice is too short.
+pub struct Written {
+    pub answer: Checked,
+    pub plan: Plan,
+}
+
+// The numbers of each region.
+pub fn fields_of(plan: Plan) -> u64
+    ensures { λ r. ⌜ r ≡ fieldsOf plan ⌝ }
+    ensures few { λ r. ⌜ r ≤ 15 ⌝ }
+{
+    match plan {
+        Plan::Buffers(_) => 3,
+        Plan::BufferTexture(_) => 12,
+        Plan::Textures(_) => 15,
+    }
+}
+
+fn is_room(plan: Plan, room: usize) -> bool
+    ensures { λ r. ⌜ r ≡ fits plan room ⌝ }
+{
+    let fields = fields_of(plan);
+    let left = plan.left() as u64;
+    left * fields <= room as u64
+}
+
+fn store(out: &mut [u64], at: usize, ns: &[u64]) -> usize
+    requires { ⌜ at + length (now ns) ≤ length (now out) ⌝ }
+    ensures { λ r. ⌜ Put (now (out .entry)) (now (out .exit)) at (now (ns .entry)) r ⌝ }
+{
+    let mut i: usize = 0;
+    while i < ns.len() {
+        out[at + i] = ns[i];
+        i += 1;
+    }
+    at + ns.len()
+}
+
+fn store_row(out: &mut [u64], at: usize, row: Row) -> usize
+    requires { ⌜ row .count ≤ length (row .values) ⌝ }
+    requires { ⌜ at + row .count ≤ length (now out) ⌝ }
+    ensures { λ r. ⌜ Put (now (out .entry)) (now (out .exit)) at (take (row .count) (row .values)) r ⌝ }
+{
+    let count = row.count;
+    let values = row.values;
+    store(out, at, &values[..count])
+}
+
+fn write_all(plan: Plan, out: &mut [u64]) -> Plan
+    requires { ⌜ leftOf plan * fieldsOf plan ≤ length (now out) ⌝ }
+    ensures { λ r. ⌜ r ≡ behindAll (leftOf plan) plan ⌝ }
+    ensures { λ _. ⌜ now (out .exit) ≡ sets (now (out .entry)) 0 (numbersLeft plan) ⌝ }
+{
+    let mut p = plan;
+    let mut left = plan.left();
+    let mut at: usize = 0;
+    while left > 0 {
+        let asked = p.next();
+        let row = asked.row;
+        let next = asked.plan;
+        at = store_row(out, at, row);
+        p = next;
+        left -= 1;
+    }
+    p
+}
+
+// The regions left, in sequence from the slice's start; no number past them changes, and none at all where the slice is too
+// short.
+pub fn write_regions(plan: Plan, out: &mut [u64]) -> Written
+    ensures { λ r. ⌜ r ≡ writtenOf plan (length (now (out .entry))) ⌝ }
+    ensures { λ _. ⌜ now (out .exit) ≡ slotsOf plan (now (out .entry)) ⌝ }
+{
+    if !is_room(plan, out.len()) {
+        return Written {
+            answer: Checked::Refused(TransferError::RegionSliceTooShort),
+            plan,
+        };
+    }
+    let behind = write_all(plan, out);
+    Written {
+        answer: Checked::GoOn,
+        plan: behind,
+    }
+}
+
+// Where each number of each region stands: nothing runs here.
+pub fn writer_laws()
+    ensures { λ _. ⌜ EveryEntry ⌝ }
+{}
