@@ -1,0 +1,4 @@
+pub mod Codes
+pub mod Field
+pub mod Line
+pub mod Laws
