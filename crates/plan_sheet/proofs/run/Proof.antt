@@ -1,0 +1,19 @@
+-- `run` meets its contract.
+-- Assumes nothing.
+use mathlib.Core.Path.{refl, sym, _∙_}
+use borrow.Author.Needs.{needs}
+use Rattle.listing.specs.Listing.{textureLines, bufferLines}
+use Rattle.plan_sheet.proofs.run.Statement.{statement}
+use Rattle.plan_sheet.proofs.run.Tie as tie
+
+list-good-requires : tie.Need-list-good-requires
+list-good-requires c κs = sym (c .before .read .given .1) ∙ c .before .before .before .read-sheet .ensures
+
+list-requires : tie.Need-list-requires
+unfolding textureLines bufferLines
+list-requires c κs = let r = c .before .before .before in (sym (r .read2 .given .1) ∙ r .before .before .read-sheet .ensures, (refl, refl))
+
+pub run-spec : {M : Type 1} → statement M
+run-spec =
+    tie.close
+    (tie.spec (search needs) (search needs) list-good-requires (search needs) (search needs) (search needs) list-requires (search needs) (search needs))
