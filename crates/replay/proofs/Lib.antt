@@ -1,0 +1,5 @@
+pub mod Bytes
+pub mod Items
+pub mod Lists
+pub mod Places
+pub mod Prints
