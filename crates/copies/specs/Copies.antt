@@ -37,7 +37,7 @@ selectorWhy (S.Refused e) = e
 unfoldable pub isEmpty : Extent3d → Bool
 isEmpty size = eqb (size .width) 0 || (eqb (size .height) 0 || eqb (size .«depth_or_array_layers») 0)
 
--- one layer on. The sum wraps; for an accepted copy's regions it never does.
+-- one layer on. The sum wraps: a plan that no planner made may have any layer.
 unfoldable pub nextLayer : TextureCopyBase → TextureCopyBase
 nextLayer b =
     record {

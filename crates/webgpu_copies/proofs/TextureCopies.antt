@@ -5,7 +5,7 @@ use mathlib.Core.Bool.{Bool, true, false, not, _&&_}
 use Prim.Native.Nat.{ℕ}
 use native.Mathlib.Omega.{arith}
 use lib.Dec.{eqb}
-use borrow.Author.Tests.{eq-eqb, eqb-true, not-false}
+use borrow.Author.Tests.{eq-eqb, eqb-true, not-true, not-false}
 use Rattle.checks.specs.Checks.{stop-if}
 use Rattle.checks.proofs.Rules.{not-yes, not-no, goes-past}
 use Rattle.checks.proofs.Tables.{everyBelow, at-below}
@@ -52,10 +52,6 @@ use Rattle.webgpu_copies.proofs.Lines.{past-line, by-line, past-rule, b
 use Rattle.webgpu_copies.proofs.Textures.{texture-goes}
 
 -- ---- tests
-
-not-true : (t : Bool) → not t ≡ true → t ≡ false
-not-true true e = let z : _≡_ {A = ℕ} 0 1 = cc in absurd (omega arith)
-not-true false e = refl
 
 not-not : (t : Bool) → not (not t) ≡ t
 not-not true = refl
