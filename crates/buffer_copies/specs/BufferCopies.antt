@@ -70,16 +70,21 @@ sizedCopy device src srcOffset dst dstOffset size =
     stop-if (lacksIndexFact device (src .usage .0) (dst .usage .0)) (P.Refused (E.MissingDownlevelFlags UnrestrictedIndexBuffer)) $
     fittingCopy src srcOffset dst dstOffset size
 
--- records (source, then destination): 3; then 4; 5 source; 5 destination; 7 source
-unfoldable pub bufferToBuffer : Device → ℕ → Buffer → ℕ → ℕ → Buffer → ℕ → OptionU64 → BufferPlanned
-bufferToBuffer device i src srcOffset j dst dstOffset size =
-    after (bufferChecked src Source) P.Refused $
-    after (bufferChecked dst Destination) P.Refused $
+-- 4; 5 source; 5 destination; 7 source
+abbrev pub usableCopy : Device → ℕ → Buffer → ℕ → ℕ → Buffer → ℕ → OptionU64 → BufferPlanned
+usableCopy device i src srcOffset j dst dstOffset size =
     stop-if (eqb i j) (P.Refused E.SameSourceDestinationBuffer) $
     stop-if (not (holds (src .usage .0) 4)) (P.Refused (E.MissingBufferUsage Source)) $
     stop-if (not (holds (dst .usage .0) 8)) (P.Refused (E.MissingBufferUsage Destination)) $
     stop-if (ltb (src .size) srcOffset) (P.Refused (E.BufferStartOffsetOverrun srcOffset (src .size) Source)) $
     sizedCopy device src srcOffset dst dstOffset (sizeOf size (src .size - srcOffset))
+
+-- records (source, then destination): 3
+unfoldable pub bufferToBuffer : Device → ℕ → Buffer → ℕ → ℕ → Buffer → ℕ → OptionU64 → BufferPlanned
+bufferToBuffer device i src srcOffset j dst dstOffset size =
+    after (bufferChecked src Source) P.Refused $
+    after (bufferChecked dst Destination) P.Refused $
+    usableCopy device i src srcOffset j dst dstOffset size
 
 -- the plan with one region fewer
 unfoldable pub advanced : BufferPlan → BufferPlan

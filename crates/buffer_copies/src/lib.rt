@@ -4,7 +4,7 @@ ghost use Prim.Native.Nat.{_+_, _-_, _^_, _<_, _≤_};
 ghost use Rattle.checks.specs.Checks.{pick};
 ghost use Rattle.measures.specs.Measure.{multiple};
 ghost use Rattle.init.specs.Init.{bufferRange, unless};
-ghost use Rattle.buffer_copies.specs.BufferCopies.{sizeOf, isShared, lacksIndexFact, isEmpty, planOf, fittingCopy, sizedCopy, bufferToBuffer, advanced, nextOf};
+ghost use Rattle.buffer_copies.specs.BufferCopies.{sizeOf, isShared, lacksIndexFact, isEmpty, planOf, fittingCopy, sizedCopy, usableCopy, bufferToBuffer, advanced, nextOf};
 use flags::BufferUsages;
 use init::BufferInitRange;
 use init::MemoryInitKind;
@@ -232,8 +232,7 @@ fn copy_rest(
     copy_sized(device, src, source_offset, dst, destination_offset, bytes)
 }
 
-// The plan of a copy between the buffers of two indices, or its refusal.
-pub fn copy_buffer_to_buffer(
+fn copy_usable(
     device: Device,
     src_index: u32,
     src: Buffer,
@@ -243,16 +242,8 @@ pub fn copy_buffer_to_buffer(
     destination_offset: u64,
     size: OptionU64,
 ) -> BufferPlanned
-    ensures { λ r. ⌜ r ≡ bufferToBuffer device «src_index» src «source_offset» «dst_index» dst «destination_offset» size ⌝ }
+    ensures { λ r. ⌜ r ≡ usableCopy device «src_index» src «source_offset» «dst_index» dst «destination_offset» size ⌝ }
 {
-    let src_checked = records::check_buffer(src, CopySide::Source);
-    let Checked::GoOn = src_checked else {
-        return BufferPlanned::Refused(refusals::why(src_checked));
-    };
-    let dst_checked = records::check_buffer(dst, CopySide::Destination);
-    let Checked::GoOn = dst_checked else {
-        return BufferPlanned::Refused(refusals::why(dst_checked));
-    };
     if src_index == dst_index {
         return BufferPlanned::Refused(TransferError::SameSourceDestinationBuffer);
     }
@@ -276,6 +267,39 @@ pub fn copy_buffer_to_buffer(
         });
     }
     copy_rest(device, src, source_offset, dst, destination_offset, size)
+}
+
+// The plan of a copy between the buffers of two indices, or its refusal.
+pub fn copy_buffer_to_buffer(
+    device: Device,
+    src_index: u32,
+    src: Buffer,
+    source_offset: u64,
+    dst_index: u32,
+    dst: Buffer,
+    destination_offset: u64,
+    size: OptionU64,
+) -> BufferPlanned
+    ensures { λ r. ⌜ r ≡ bufferToBuffer device «src_index» src «source_offset» «dst_index» dst «destination_offset» size ⌝ }
+{
+    let src_checked = records::check_buffer(src, CopySide::Source);
+    let Checked::GoOn = src_checked else {
+        return BufferPlanned::Refused(refusals::why(src_checked));
+    };
+    let dst_checked = records::check_buffer(dst, CopySide::Destination);
+    let Checked::GoOn = dst_checked else {
+        return BufferPlanned::Refused(refusals::why(dst_checked));
+    };
+    copy_usable(
+        device,
+        src_index,
+        src,
+        source_offset,
+        dst_index,
+        dst,
+        destination_offset,
+        size,
+    )
 }
 
 impl BufferPlan {

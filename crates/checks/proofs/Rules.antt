@@ -39,6 +39,22 @@ pub not-both : (s t : Bool) → (s && t) ≡ false → s ≡ true → t ≡ fals
 not-both true t e h = e
 not-both false t e h = let z : _≡_ {A = ℕ} 0 1 = cc in absurd (omega arith)
 
+-- the answer of two tests, of which the second is made only where the first does not hold
+pub or-stops : (s t x : Bool) → s ≡ true → x ≡ true → x ≡ (s || t)
+or-stops s t x h k = rw h k
+
+pub or-passes : (s t x : Bool) → s ≡ false → x ≡ t → x ≡ (s || t)
+or-passes s t x h k = rw h k
+
+-- the first was the negation of a call's answer
+pub or-stops-unflag : (r s t x : Bool) → r ≡ s → not r ≡ true → x ≡ true → x ≡ (not s || t)
+or-stops-unflag r s t x p q k = or-stops (not s) t x (ap not (sym p) ∙ q) k
+
+pub or-passes-unflag : (r s t x : Bool) → r ≡ s → not r ≡ false → x ≡ t → x ≡ (not s || t)
+or-passes-unflag r s t x p q k = or-passes (not s) t x (ap not (sym p) ∙ q) k
+
+pub ruleset or-lines = (tests, or-stops, or-passes, or-stops-unflag, or-passes-unflag)
+
 -- several tests that all hold, one by one
 abbrev pub AllTrue : List Bool → Type 0
 AllTrue [] = Unit {0}

@@ -13,8 +13,9 @@ use Rattle.checks.proofs.Rules.{AllTrue, all-true}
 use Rattle.checks.proofs.Tables.{at-each}
 use Rattle.measures.specs.declared.OptionU32.the-variants.{Given, Absent}
 use Rattle.formats.specs.declared.FormatRow.{FormatRow}
-use Rattle.formats.specs.Sheet.{formats, unknown, rowOf, blockWidth, blockHeight}
-use Rattle.formats.specs.Aspects.{bytesOf, blockCopySize, chosenAspects, unlessNone}
+use Rattle.formats.specs.declared.TextureAspect.{TextureAspect}
+use Rattle.formats.specs.Sheet.{formats, unknown, rowOf, blockWidth, blockHeight, aspectsOf}
+use Rattle.formats.specs.Aspects.{askedOf, bytesOf, blockCopySize, chosenAspects, unlessNone}
 use Rattle.formats.specs.Laws.{EveryFormat, maxBlockSide, maxBlockBytes}
 
 -- an arm of the match on a format: the number it is, what the arm made, and the table's row of that number
@@ -107,3 +108,14 @@ every-format format =
       bytes-some = λ asked n e. let g = given (bytesOf (rowOf format) (chosenAspects format asked)) n e in omega arith;
       bytes-few = λ asked n e. let g = given (bytesOf (rowOf format) (chosenAspects format asked)) n e in omega (arith, bytes-few (rowOf format) s (chosenAspects format asked));
     }
+
+-- the bytes of a block where what is chosen is colour
+pub color-size :
+    (format : ℕ) (asked : TextureAspect) (aspects : ℕ)
+    → aspects ≡ aspectsOf format
+    → askedOf aspects asked ≡ 1
+    → unlessNone (rowOf format .color) ≡ blockCopySize format asked
+unfolding blockCopySize chosenAspects bytesOf stop-if
+color-size format asked aspects e h =
+    let chosen : askedOf (aspectsOf format) asked ≡ 1 = ap (λ x. askedOf x asked) (sym e) ∙ h in
+    ap (λ x. unlessNone (bytesOf (rowOf format) x)) (sym chosen)

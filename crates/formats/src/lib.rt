@@ -1,5 +1,6 @@
 // The texture formats by their numbers: blocks, bytes, aspects, planes and srgb pairs.
 ghost use mathlib.Core.Path.{_≡_};
+ghost use mathlib.Core.Bool.{true};
 ghost use Rattle.formats.specs.Sheet.{color as colorRow, depthStencil, planar as planarRow, rowOf, isFormat, blockWidth, blockHeight, aspectsOf, isDepthStencil, isCombinedDepthStencil, removeSrgb, isMultiPlanar};
 ghost use Rattle.formats.specs.Aspects.{askedOf, chosenAspects, bytesOf, unlessNone, blockCopySize, planeFormat, aspectSpecificFormat, subsamplingFactor};
 ghost use Rattle.formats.specs.Laws.{EveryFormat};
@@ -181,24 +182,60 @@ pub fn chosen_aspects(format: u32, asked: TextureAspect) -> FormatAspects
     met_with_asked(format_aspects(format), asked)
 }
 
-fn bytes_of(row: FormatRow, aspects: FormatAspects) -> u32
-    ensures { λ r. ⌜ r ≡ bytesOf row (aspects .0) ⌝ }
+// The bytes of a block of each aspect. One field at a time, a look at the table is one load.
+fn color_bytes(format: u32) -> u32
+    ensures { λ r. ⌜ r ≡ rowOf format .color ⌝ }
+{
+    let row = format_row(format);
+    row.color
+}
+
+fn depth_bytes(format: u32) -> u32
+    ensures { λ r. ⌜ r ≡ rowOf format .depth ⌝ }
+{
+    let row = format_row(format);
+    row.depth
+}
+
+fn stencil_bytes(format: u32) -> u32
+    ensures { λ r. ⌜ r ≡ rowOf format .stencil ⌝ }
+{
+    let row = format_row(format);
+    row.stencil
+}
+
+fn plane_0_bytes(format: u32) -> u32
+    ensures { λ r. ⌜ r ≡ rowOf format .«plane_0» ⌝ }
+{
+    let row = format_row(format);
+    row.plane_0
+}
+
+fn plane_1_bytes(format: u32) -> u32
+    ensures { λ r. ⌜ r ≡ rowOf format .«plane_1» ⌝ }
+{
+    let row = format_row(format);
+    row.plane_1
+}
+
+fn bytes_of(format: u32, aspects: FormatAspects) -> u32
+    ensures { λ r. ⌜ r ≡ bytesOf (rowOf format) (aspects .0) ⌝ }
 {
     let bits = aspects.0;
     if bits == FormatAspects::COLOR.0 {
-        return row.color;
+        return color_bytes(format);
     }
     if bits == FormatAspects::DEPTH.0 {
-        return row.depth;
+        return depth_bytes(format);
     }
     if bits == FormatAspects::STENCIL.0 {
-        return row.stencil;
+        return stencil_bytes(format);
     }
     if bits == FormatAspects::PLANE_0.0 {
-        return row.plane_0;
+        return plane_0_bytes(format);
     }
     if bits == FormatAspects::PLANE_1.0 {
-        return row.plane_1;
+        return plane_1_bytes(format);
     }
     NONE
 }
@@ -212,11 +249,33 @@ fn unless_none(bytes: u32) -> OptionU32
     OptionU32::Given(bytes)
 }
 
-// The bytes of a block of the one aspect that a copy chooses.
+fn is_color(aspects: FormatAspects, asked: TextureAspect) -> bool
+    ensures { λ r. ⌜ (r ≡ true → askedOf (aspects .0) asked ≡ 1) ⌝ }
+{
+    match asked {
+        TextureAspect::All => aspects.0 == FormatAspects::COLOR.0,
+        TextureAspect::StencilOnly => false,
+        TextureAspect::DepthOnly => false,
+        TextureAspect::Plane0 => false,
+        TextureAspect::Plane1 => false,
+        TextureAspect::Plane2 => false,
+    }
+}
+
+fn chosen_copy_size(format: u32, asked: TextureAspect) -> OptionU32
+    ensures { λ r. ⌜ r ≡ blockCopySize format asked ⌝ }
+{
+    unless_none(bytes_of(format, chosen_aspects(format, asked)))
+}
+
+// The bytes of a block of the one aspect that a copy chooses. Nearly every copy is of a colour format.
 pub fn block_copy_size(format: u32, asked: TextureAspect) -> OptionU32
     ensures { λ r. ⌜ r ≡ blockCopySize format asked ⌝ }
 {
-    unless_none(bytes_of(format_row(format), chosen_aspects(format, asked)))
+    if is_color(format_aspects(format), asked) {
+        return unless_none(color_bytes(format));
+    }
+    chosen_copy_size(format, asked)
 }
 
 pub fn is_depth_stencil_format(format: u32) -> bool

@@ -51,7 +51,7 @@ pub fn size_of(l: Line) -> OptionU64
     OptionU64::Given(value_of(l, 5))
 }
 
-fn aspect_of(n: u64) -> TextureAspect
+pub fn aspect_of(n: u64) -> TextureAspect
     ensures { λ r. ⌜ r ≡ aspectOf n ⌝ }
 {
     match n {

@@ -198,6 +198,13 @@ unfolding textLeft begunAt illState listingFrom textureLines bufferLines regions
 begun-left s (W.Good p) = refl
 begun-left s (W.Ill n) = refl
 
+-- the first state has the whole listing left
+pub begun-listing :
+    (s ts bs : List ℕ) (w : Sheet) (st : Lister) → st ≡ begunAt s w → w ≡ sheetOf s → ts ≡ textureLines s w → bs ≡ bufferLines s w
+    → textLeft s ts bs st ≡ listingOf s
+unfolding listingOf
+begun-listing s ts bs w st begun is t b = rw (begun, t, b) (begun-left s w ∙ ap (listingFrom s) is)
+
 pub listed : Listed
 unfolding listingOf
 listed s t g = gives-left s (textureLines s (sheetOf s)) (bufferLines s (sheetOf s)) (begunAt s (sheetOf s)) t g ∙ begun-left s (sheetOf s)

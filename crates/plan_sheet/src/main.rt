@@ -1,6 +1,6 @@
 // Reads a job sheet on standard input and writes its listing.
 ghost use mathlib.Core.Path.{_≡_};
-ghost use Prim.Native.Nat.{_+_, min};
+ghost use Prim.Native.Nat.{_+_};
 ghost use lib.ListN.{length};
 ghost use Rattle.sheet.specs.Sheet.{sheetOf};
 ghost use Rattle.listing.specs.Listing.{textLeft, textureLines, bufferLines};
@@ -10,9 +10,6 @@ use listing::Lister;
 use sheet::Part;
 use sheet::Parts;
 use sheet::Sheet;
-
-// The most textures, and the most buffers, of a sheet.
-const MOST: usize = 64;
 
 // As much of the listing as a buffer holds, written; so much less is left.
 fn write_some(st: Lister, s: &[u8], textures: &[usize], buffers: &[usize]) -> Filled
@@ -41,24 +38,18 @@ fn list(s: &[u8], textures: &[usize], buffers: &[usize], read: Sheet)
     }
 }
 
-fn at_most(n: usize) -> usize
-    ensures { λ r. ⌜ r ≡ min n 64 ⌝ }
-{
-    if n > MOST { MOST } else { n }
-}
-
 // A good sheet, with the places of its records. Its counts are at most 64, so none is cut off.
 fn list_good(s: &[u8], p: Parts)
     requires { ⌜ Sheet.Good p ≡ sheetOf (now s) ⌝ }
 {
     let t = p.textures;
     let b = p.buffers;
-    let mut textures = [0usize; MOST];
-    let mut buffers = [0usize; MOST];
+    let mut textures = [0usize; sheet::MAX_RECORDS];
+    let mut buffers = [0usize; sheet::MAX_RECORDS];
     sheet::find_places(s, sheet::TEXTURES, t.count, t.first, &mut textures);
     sheet::find_places(s, sheet::BUFFERS, b.count, b.first, &mut buffers);
-    let m = at_most(t.count);
-    let n = at_most(b.count);
+    let m = sheet::kept(t.count);
+    let n = sheet::kept(b.count);
     list(s, &textures[..m], &buffers[..n], Sheet::Good(p))
 }
 

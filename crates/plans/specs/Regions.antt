@@ -9,6 +9,8 @@ use Rattle.buffer_texture_plans.specs.declared.NextBufferTextureCopy.the-varian
 use Rattle.buffer_texture_plans.specs.Asking as L
 use Rattle.texture_plans.specs.declared.NextTextureCopy.{NextTextureCopy}
 use Rattle.texture_plans.specs.declared.NextTextureCopy.the-variants as T
+use Rattle.texture_plans.specs.declared.TexturePlan.{TexturePlan}
+use Rattle.texture_plans.specs.declared.TextureRanges.{TextureRanges}
 use Rattle.texture_plans.specs.Asking as X
 use Rattle.rows.specs.Rows.{rowOf, bufferCopyNumbers, bufferTextureCopyNumbers, textureCopyNumbers}
 use Rattle.plans.specs.declared.Plan.{Plan}
@@ -68,3 +70,9 @@ regionsFrom (suc n) p = numbersOf p ∷ regionsFrom n (behindOf p)
 
 unfoldable pub regionsLeft : Plan → List (List ℕ)
 regionsLeft p = regionsFrom (leftOf p) p
+
+-- ---- a plan with other ranges, which its regions do not rest on
+
+abbrev pub texturesWith : TextureRanges → TexturePlan → TexturePlan
+texturesWith ranges p =
+    record { src = p .src; dst = p .dst; size = p .size; parts = p .parts; part = p .part; left = p .left; ranges = ranges }

@@ -32,7 +32,7 @@ fn no_row() -> Row
     }
 }
 
-fn buffer_row(answer: NextBufferCopy) -> Row
+pub fn buffer_row(answer: NextBufferCopy) -> Row
     ensures { λ r. ⌜ r ≡ rowOf (bufferNumbers answer) ⌝ }
 {
     match answer {
@@ -41,7 +41,7 @@ fn buffer_row(answer: NextBufferCopy) -> Row
     }
 }
 
-fn buffer_texture_row(answer: NextBufferTextureCopy) -> Row
+pub fn buffer_texture_row(answer: NextBufferTextureCopy) -> Row
     ensures { λ r. ⌜ r ≡ rowOf (bufferTextureNumbers answer) ⌝ }
 {
     match answer {
@@ -50,7 +50,7 @@ fn buffer_texture_row(answer: NextBufferTextureCopy) -> Row
     }
 }
 
-fn texture_row(answer: NextTextureCopy) -> Row
+pub fn texture_row(answer: NextTextureCopy) -> Row
     ensures { λ r. ⌜ r ≡ rowOf (textureNumbers answer) ⌝ }
 {
     match answer {

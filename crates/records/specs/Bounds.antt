@@ -46,17 +46,20 @@ levelsInBounds dimension e levels = within 1 levels (maxMipLevels (mipSide dimen
 unfoldable pub mayBeMultisampled : ℕ → Bool
 mayBeMultisampled format = leb format 10 || within 15 format 20
 
--- samples 1 or 4; 4 needs 2D, one layer, one level, and a format that may have it
-unfoldable pub samplesInBounds : Texture → Bool
-samplesInBounds t =
-    eqb (t .«sample_count») 1
-    || every
+-- four need 2D, one layer, one level, and a format that may have them
+abbrev pub fourSamples : Texture → Bool
+fourSamples t =
+    every
     (eqb (t .«sample_count») 4
     ∷ eqb (t .dimension) 2
     ∷ eqb (t .size .«depth_or_array_layers») 1
     ∷ eqb (t .«mip_level_count») 1
     ∷ mayBeMultisampled (t .format)
     ∷ [])
+
+-- one sample, or four
+unfoldable pub samplesInBounds : Texture → Bool
+samplesInBounds t = eqb (t .«sample_count») 1 || fourSamples t
 
 -- 11 to 21 are 2D only
 unfoldable pub dimensionSuits : ℕ → ℕ → Bool
@@ -66,11 +69,12 @@ dimensionSuits format dimension = leb format 10 || eqb dimension 2
 unfoldable pub sidesWhole : ℕ → Extent3d → Bool
 sidesWhole format e = multiple (e .width) (blockWidth format) && multiple (e .height) (blockHeight format)
 
--- 21 has even sides and one level
+abbrev pub evenSides : Texture → Bool
+evenSides t = every (multiple (t .size .width) 2 ∷ multiple (t .size .height) 2 ∷ eqb (t .«mip_level_count») 1 ∷ [])
+
+-- planes need even sides and one level
 unfoldable pub planesSuit : Texture → Bool
-planesSuit t =
-    not (isMultiPlanar (t .format))
-    || every (multiple (t .size .width) 2 ∷ multiple (t .size .height) 2 ∷ eqb (t .«mip_level_count») 1 ∷ [])
+planesSuit t = not (isMultiPlanar (t .format)) || evenSides t
 
 -- each field by itself
 unfoldable pub fieldsInBounds : Texture → Bool

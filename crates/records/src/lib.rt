@@ -2,7 +2,7 @@
 ghost use mathlib.Core.Path.{_≡_};
 ghost use mathlib.Core.Bool.{true};
 ghost use Prim.Native.Nat.{max};
-ghost use Rattle.records.specs.Bounds.{within, bufferInBounds, sizeInBounds, mipSide, levelsInBounds, mayBeMultisampled, samplesInBounds, dimensionSuits, sidesWhole, planesSuit, fieldsInBounds, formatSuits, textureInBounds, bufferChecked, textureChecked};
+ghost use Rattle.records.specs.Bounds.{within, bufferInBounds, sizeInBounds, mipSide, levelsInBounds, mayBeMultisampled, fourSamples, samplesInBounds, dimensionSuits, sidesWhole, evenSides, planesSuit, fieldsInBounds, formatSuits, textureInBounds, bufferChecked, textureChecked};
 ghost use Rattle.records.specs.Extents.{logicalExtent, physicalExtent};
 ghost use Rattle.records.specs.Laws.{RecordLaws};
 use flags::BufferUsages;
@@ -145,18 +145,27 @@ fn may_be_multisampled(format: u32) -> bool
     checks::either(format <= 10, is_within(15, format, 20))
 }
 
-fn samples_in_bounds(t: Texture) -> bool
-    ensures { λ r. ⌜ r ≡ samplesInBounds t ⌝ }
+fn has_four_samples(t: Texture) -> bool
+    ensures { λ r. ⌜ r ≡ fourSamples t ⌝ }
 {
     let size = t.size;
-    let four = checks::all_five(
+    checks::all_five(
         t.sample_count == 4,
         t.dimension == 2,
         size.depth_or_array_layers == 1,
         t.mip_level_count == 1,
         may_be_multisampled(t.format),
-    );
-    checks::either(t.sample_count == 1, four)
+    )
+}
+
+// Nearly every texture has one sample, hence a branch.
+fn samples_in_bounds(t: Texture) -> bool
+    ensures { λ r. ⌜ r ≡ samplesInBounds t ⌝ }
+{
+    if t.sample_count == 1 {
+        return true;
+    }
+    has_four_samples(t)
 }
 
 fn dimension_suits(format: u32, dimension: u32) -> bool
@@ -175,16 +184,24 @@ fn sides_whole(format: u32, e: Extent3d) -> bool
     )
 }
 
-fn planes_suit(t: Texture) -> bool
-    ensures { λ r. ⌜ r ≡ planesSuit t ⌝ }
+fn has_even_sides(t: Texture) -> bool
+    ensures { λ r. ⌜ r ≡ evenSides t ⌝ }
 {
     let size = t.size;
-    let suits = checks::all_three(
+    checks::all_three(
         measures::is_multiple_of(size.width, 2),
         measures::is_multiple_of(size.height, 2),
         t.mip_level_count == 1,
-    );
-    checks::either(!formats::is_multi_planar_format(t.format), suits)
+    )
+}
+
+fn planes_suit(t: Texture) -> bool
+    ensures { λ r. ⌜ r ≡ planesSuit t ⌝ }
+{
+    if !formats::is_multi_planar_format(t.format) {
+        return true;
+    }
+    has_even_sides(t)
 }
 
 fn format_suits(t: Texture) -> bool

@@ -1,5 +1,4 @@
 pub mod Bytes
 pub mod Items
 pub mod Lists
-pub mod Places
 pub mod Prints

@@ -88,19 +88,6 @@ module _ {whole left recorded : List ℕ} {at : ℕ} (c : Comparing whole left r
   pub comparing-less : (count ≡ 0 → ⊥) → length after < length left
   comparing-less n = omega (arith, ap length (p .left), length-append (p .text) after, p .counted)
 
--- ---- the first state has the whole listing left
-
-begun-left : (s : List ℕ) (w : Sheet) → textLeft s (textureLines s w) (bufferLines s w) (begunAt s w) ≡ listingFrom s w
-unfolding textLeft begunAt illState listingFrom textureLines bufferLines regionsText leftOf noPlan
-begun-left s (W.Good p) = refl
-begun-left s (W.Ill n) = refl
-
-pub begun-listing :
-    (s ts bs : List ℕ) (w : Sheet) (st : Lister) → st ≡ begunAt s w → w ≡ sheetOf s → ts ≡ textureLines s w → bs ≡ bufferLines s w
-    → textLeft s ts bs st ≡ listingOf s
-unfolding listingOf
-begun-listing s ts bs w st begun is t b = rw (begun, t, b) (begun-left s w ∙ ap (listingFrom s) is)
-
 -- ---- item by item
 
 differs-few : (s recorded : List ℕ) → differs s recorded ≤ 1

@@ -2,7 +2,7 @@
 // differs from the one on the list, and how many there are.
 ghost use mathlib.Core.Path.{_≡_};
 ghost use mathlib.Core.List.{_++_};
-ghost use Prim.Native.Nat.{_+_, _≤_, _<_, min};
+ghost use Prim.Native.Nat.{_+_, _≤_, _<_};
 ghost use lib.ListN.{length, drop};
 ghost use Rattle.texts.specs.Text.{decimal, Put};
 ghost use Rattle.sheet.specs.Sheet.{sheetOf};
@@ -14,9 +14,6 @@ use listing::Lister;
 use sheet::Part;
 use sheet::Parts;
 use sheet::Sheet;
-
-// The most textures, and the most buffers, of a sheet.
-const MOST: usize = 64;
 
 // Room for the list and a byte more, which tells that there is more.
 const SPACE: usize = 262144;
@@ -111,12 +108,6 @@ fn compare(s: &[u8], textures: &[usize], buffers: &[usize], read: Sheet, recorde
     }
 }
 
-fn at_most(n: usize) -> usize
-    ensures { λ r. ⌜ r ≡ min n 64 ⌝ }
-{
-    if n > MOST { MOST } else { n }
-}
-
 // A good sheet, with the places of its records. Its counts are at most 64, so none is cut off.
 fn compare_good(s: &[u8], p: Parts, recorded: &[u8]) -> bool
     requires { ⌜ Sheet.Good p ≡ sheetOf (now s) ⌝ }
@@ -124,12 +115,12 @@ fn compare_good(s: &[u8], p: Parts, recorded: &[u8]) -> bool
 {
     let t = p.textures;
     let b = p.buffers;
-    let mut textures = [0usize; MOST];
-    let mut buffers = [0usize; MOST];
+    let mut textures = [0usize; sheet::MAX_RECORDS];
+    let mut buffers = [0usize; sheet::MAX_RECORDS];
     sheet::find_places(s, sheet::TEXTURES, t.count, t.first, &mut textures);
     sheet::find_places(s, sheet::BUFFERS, b.count, b.first, &mut buffers);
-    let m = at_most(t.count);
-    let n = at_most(b.count);
+    let m = sheet::kept(t.count);
+    let n = sheet::kept(b.count);
     compare(s, &textures[..m], &buffers[..n], Sheet::Good(p), recorded)
 }
 

@@ -19,7 +19,7 @@ pub struct Row {
 }
 
 // A value, or what stands for an absent one.
-fn or_absent(value: OptionU32) -> u64
+pub fn or_absent(value: OptionU32) -> u64
     ensures { λ r. ⌜ r ≡ orAbsent value ⌝ }
 {
     match value {

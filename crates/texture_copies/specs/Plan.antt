@@ -83,19 +83,29 @@ selectedCopy split src dst size srcExtent dstExtent layers =
     stop-if (not (eqb (dstBase .aspect .0) (aspectsOf (dst .texture .format)))) (P.Refused E.CopyDstMissingAspects) $
     usable src dst size srcExtent dstExtent layers srcBase dstBase
 
--- module 3 source, destination; 9 against the plane; 11
-unfoldable pub rangedCopy : Bool → Bool → TextureSide → TextureSide → Extent3d → TexturePlanned
-rangedCopy same split src dst size =
-    after-range (rangeChecked (src .view) (src .texture) Source size) P.Refused λ srcExtent layers.
-    after-range (rangeChecked (dst .view) (dst .texture) Destination size) P.Refused λ dstExtent dstLayers.
+-- 9 against the plane; 11
+abbrev pub withinCopy : Bool → Bool → TextureSide → TextureSide → Extent3d → CopyExtent → CopyExtent → ℕ → TexturePlanned
+withinCopy same split src dst size srcExtent dstExtent layers =
     after (planeChecked split src size) P.Refused $
     after (withinOne same src dst layers) P.Refused $
     selectedCopy split src dst size srcExtent dstExtent layers
 
--- records: 2 source, 2 destination; then 33
+-- module 3 source, destination
+unfoldable pub rangedCopy : Bool → Bool → TextureSide → TextureSide → Extent3d → TexturePlanned
+rangedCopy same split src dst size =
+    after-range (rangeChecked (src .view) (src .texture) Source size) P.Refused λ srcExtent layers.
+    after-range (rangeChecked (dst .view) (dst .texture) Destination size) P.Refused λ dstExtent dstLayers.
+    withinCopy same split src dst size srcExtent dstExtent layers
+
+-- 33
+abbrev pub matchedCopy : Bool → Bool → TextureSide → TextureSide → Extent3d → TexturePlanned
+matchedCopy same split src dst size =
+    stop-if (formatsDiffer src dst && not split) (P.Refused (E.TextureFormatsNotCopyCompatible (src .texture .format) (dst .texture .format))) $
+    rangedCopy same split src dst size
+
+-- records: 2 source, 2 destination
 unfoldable pub textureToTexture : ℕ → TextureSide → ℕ → TextureSide → Extent3d → TexturePlanned
 textureToTexture i src j dst size =
     after (textureChecked (src .texture) Source) P.Refused $
     after (textureChecked (dst .texture) Destination) P.Refused $
-    stop-if (formatsDiffer src dst && not (isPlaneSplit src dst)) (P.Refused (E.TextureFormatsNotCopyCompatible (src .texture .format) (dst .texture .format))) $
-    rangedCopy (eqb i j) (isPlaneSplit src dst) src dst size
+    matchedCopy (eqb i j) (isPlaneSplit src dst) src dst size

@@ -8,7 +8,7 @@ ghost use Rattle.formats.specs.Aspects.{subsamplingFactor};
 ghost use Rattle.ranges.specs.Range.{subjectOf, dimensionChecked, rangeChecked};
 ghost use Rattle.selectors.specs.Selector.{selectorChecked, sameTextureChecked};
 ghost use Rattle.records.specs.Bounds.{textureInBounds, textureChecked};
-ghost use Rattle.texture_copies.specs.Plan.{isThis, isPlaneSplit, formatsDiffer, planeWidth, planeHeight, planeSides, planeChecked, withinOne, usable, selectedCopy, rangedCopy, textureToTexture};
+ghost use Rattle.texture_copies.specs.Plan.{isThis, isPlaneSplit, formatsDiffer, planeWidth, planeHeight, planeSides, planeChecked, withinOne, usable, selectedCopy, withinCopy, rangedCopy, matchedCopy, textureToTexture};
 use flags::TextureUsages;
 use formats::TextureAspect;
 use measures::Extent3d;
@@ -62,10 +62,10 @@ fn formats_differ(src: TextureSide, dst: TextureSide) -> bool
         != formats::remove_srgb_suffix(dst_texture.format)
 }
 
-fn is_incompatible(src: TextureSide, dst: TextureSide) -> bool
-    ensures { λ r. ⌜ r ≡ (formatsDiffer src dst && not (isPlaneSplit src dst)) ⌝ }
+fn is_incompatible(split: bool, src: TextureSide, dst: TextureSide) -> bool
+    ensures { λ r. ⌜ r ≡ (formatsDiffer src dst && not split) ⌝ }
 {
-    checks::both(formats_differ(src, dst), !is_plane_split(src, dst))
+    checks::both(formats_differ(src, dst), !split)
 }
 
 fn plane_side(n: u32, aspect: TextureAspect) -> u32
@@ -282,6 +282,30 @@ fn range_side(side: TextureSide, of: CopySide, size: Extent3d) -> RangeChecked
     ranges::validate_texture_copy_range(view, texture, of, size)
 }
 
+fn place_copy(
+    same: bool,
+    split: bool,
+    src: TextureSide,
+    dst: TextureSide,
+    size: Extent3d,
+    src_extent: CopyExtent,
+    dst_extent: CopyExtent,
+    layers: u32,
+) -> TexturePlanned
+    requires { ⌜ layers < 2 ^ 16 ⌝ }
+    ensures { λ r. ⌜ r ≡ withinCopy same split src dst size «src_extent» «dst_extent» layers ⌝ }
+{
+    let plane = check_plane(split, src, size);
+    let Checked::GoOn = plane else {
+        return TexturePlanned::Refused(refusals::why(plane));
+    };
+    let one = check_one_texture(same, src, dst, layers);
+    let Checked::GoOn = one else {
+        return TexturePlanned::Refused(refusals::why(one));
+    };
+    select_copy(split, src, dst, size, src_extent, dst_extent, layers)
+}
+
 fn range_copy(
     same: bool,
     split: bool,
@@ -300,15 +324,7 @@ fn range_copy(
     let RangeChecked::GoOn(dst_extent, _) = to else {
         return TexturePlanned::Refused(copies::range_why(to));
     };
-    let plane = check_plane(split, src, size);
-    let Checked::GoOn = plane else {
-        return TexturePlanned::Refused(refusals::why(plane));
-    };
-    let one = check_one_texture(same, src, dst, layers);
-    let Checked::GoOn = one else {
-        return TexturePlanned::Refused(refusals::why(one));
-    };
-    select_copy(split, src, dst, size, src_extent, dst_extent, layers)
+    place_copy(same, split, src, dst, size, src_extent, dst_extent, layers)
 }
 
 fn check_side(side: TextureSide, of: CopySide) -> Checked
@@ -318,11 +334,32 @@ fn check_side(side: TextureSide, of: CopySide) -> Checked
     records::check_texture(texture, of)
 }
 
-fn range_split(same: bool, src: TextureSide, dst: TextureSide, size: Extent3d) -> TexturePlanned
+fn match_copy(
+    same: bool,
+    split: bool,
+    src: TextureSide,
+    dst: TextureSide,
+    size: Extent3d,
+) -> TexturePlanned
     requires { ⌜ (textureInBounds (src .texture) ≡ true) × (textureInBounds (dst .texture) ≡ true) ⌝ }
-    ensures { λ r. ⌜ r ≡ rangedCopy same (isPlaneSplit src dst) src dst size ⌝ }
+    ensures { λ r. ⌜ r ≡ matchedCopy same split src dst size ⌝ }
 {
-    range_copy(same, is_plane_split(src, dst), src, dst, size)
+    if is_incompatible(split, src, dst) {
+        let src_texture = src.texture;
+        let dst_texture = dst.texture;
+        return TexturePlanned::Refused(TransferError::TextureFormatsNotCopyCompatible {
+            src_format: src_texture.format,
+            dst_format: dst_texture.format,
+        });
+    }
+    range_copy(same, split, src, dst, size)
+}
+
+fn match_split(same: bool, src: TextureSide, dst: TextureSide, size: Extent3d) -> TexturePlanned
+    requires { ⌜ (textureInBounds (src .texture) ≡ true) × (textureInBounds (dst .texture) ≡ true) ⌝ }
+    ensures { λ r. ⌜ r ≡ matchedCopy same (isPlaneSplit src dst) src dst size ⌝ }
+{
+    match_copy(same, is_plane_split(src, dst), src, dst, size)
 }
 
 // The plan of a copy between the textures of two indices, or its refusal.
@@ -343,13 +380,5 @@ pub fn copy_texture_to_texture(
     let Checked::GoOn = to else {
         return TexturePlanned::Refused(refusals::why(to));
     };
-    if is_incompatible(src, dst) {
-        let src_texture = src.texture;
-        let dst_texture = dst.texture;
-        return TexturePlanned::Refused(TransferError::TextureFormatsNotCopyCompatible {
-            src_format: src_texture.format,
-            dst_format: dst_texture.format,
-        });
-    }
-    range_split(src_index == dst_index, src, dst, copy_size)
+    match_split(src_index == dst_index, src, dst, copy_size)
 }

@@ -15,15 +15,20 @@ use Rattle.refusals.specs.declared.Checked.the-variants as C
 use Rattle.texts.specs.Text.{Put}
 use Rattle.texts.proofs.Puts.{sets-append, put-as, put-length}
 use Rattle.rows.specs.Rows.{rowOf, bufferCopyNumbers, bufferTextureCopyNumbers, textureCopyNumbers}
+use Rattle.rows.specs.declared.Row.{Row}
 use Rattle.buffer_copies.specs.BufferCopies as K
 use Rattle.buffer_texture_plans.specs.Asking as L
+use Rattle.texture_plans.specs.declared.AskedTexture.{AskedTexture}
+use Rattle.texture_plans.specs.declared.TexturePlan.{TexturePlan}
+use Rattle.texture_plans.specs.declared.TextureRanges.{TextureRanges}
+use Rattle.texture_plans.specs.declared.TextureRanges.the-variants.{Absent}
 use Rattle.texture_plans.specs.Asking as X
 use Rattle.rows.proofs.Fronts.{row-count, row-numbers, row-inside}
 use Rattle.plans.specs.declared.Plan.{Plan}
-use Rattle.plans.specs.declared.AskedRow.{AskedRow}
 use Rattle.plans.specs.declared.Plan.the-variants.{Buffers, BufferTexture, Textures}
-use Rattle.plans.specs.Regions.{leftOf, fieldsOf, bufferNumbers, bufferTextureNumbers, textureNumbers, numbersOf, behindOf, nextOf}
+use Rattle.plans.specs.Regions.{leftOf, fieldsOf, bufferNumbers, bufferTextureNumbers, textureNumbers, numbersOf, behindOf, texturesWith}
 use Rattle.plans.proofs.Behind.{behind-left}
+use Rattle.plans.proofs.Ranges.{numbers-with, behind-with}
 use Rattle.writer.specs.Writing.{numbersFrom, numbersLeft, behindAll, fits, slotsOf, writtenOf, EveryEntry}
 
 -- ---- one region
@@ -51,72 +56,78 @@ module _ where
   fields-few (BufferTexture p) = omega arith
   fields-few (Textures p) = omega arith
 
--- ---- the loop: finishing from here gives what the whole gives
+-- ---- a loop: finishing from here gives what the whole gives
 
-module _ (l₀ l : List ℕ) (p₀ p : Plan) (at left : ℕ) where
+module _ (l₀ l : List ℕ) (p₀ p : Plan) (at : ℕ) where
   pub record Underway : Type 0 where
-    pub left-is : leftOf p ≡ left
-    pub room : at + left * fieldsOf p ≤ length l
+    pub room : at + leftOf p * fieldsOf p ≤ length l
     pub same : length l ≡ length l₀
-    pub plan : behindAll left p ≡ behindAll (leftOf p₀) p₀
-    pub slots : sets l at (numbersFrom left p) ≡ sets l₀ 0 (numbersLeft p₀)
+    pub plan : behindAll (leftOf p) p ≡ behindAll (leftOf p₀) p₀
+    pub slots : sets l at (numbersLeft p) ≡ sets l₀ 0 (numbersLeft p₀)
 
-pub begun : (l : List ℕ) (p : Plan) (left : ℕ) → left ≡ leftOf p → leftOf p * fieldsOf p ≤ length l → Underway l l p p 0 left
-unfolding numbersLeft
-begun l p left e h = rw e (record { left-is = refl; room = omega arith; same = refl; plan = refl; slots = refl })
+pub begun : (l : List ℕ) (p : Plan) → leftOf p * fieldsOf p ≤ length l → Underway l l p p 0
+begun l p h = record { room = omega arith; same = refl; plan = refl; slots = refl }
 
-module _ {l₀ l : List ℕ} {p₀ p : Plan} {at left : ℕ} (u : Underway l₀ l p₀ p at left) (h : 0 < left) where
-  pub region-fields : length (numbersOf p) ≡ fieldsOf p
-  region-fields = numbers-count p (omega (arith, u .left-is))
-
+module _ {l₀ l : List ℕ} {p₀ p : Plan} {at : ℕ} (u : Underway l₀ l p₀ p at) (h : 0 < leftOf p) where
   pub region-few : length (numbersOf p) ≤ 15
-  region-few = omega (arith, region-fields, fields-few p)
+  region-few = omega (arith, numbers-count p h, fields-few p)
 
-  one-of : left * fieldsOf p ≡ fieldsOf p + (left - 1) * fieldsOf p
-  one-of = let e : left ≡ suc (left - 1) = omega arith in ap (λ (n : ℕ). n * fieldsOf p) e ∙ suc-mul (left - 1) (fieldsOf p) ∙ add-comm ((left - 1) * fieldsOf p) (fieldsOf p)
+  one-of : leftOf p * fieldsOf p ≡ fieldsOf p + (leftOf p - 1) * fieldsOf p
+  one-of = let e : leftOf p ≡ suc (leftOf p - 1) = omega arith in ap (λ (n : ℕ). n * fieldsOf p) e ∙ suc-mul (leftOf p - 1) (fieldsOf p) ∙ add-comm ((leftOf p - 1) * fieldsOf p) (fieldsOf p)
 
-  pub region-room : at + length (numbersOf p) ≤ length l
-  region-room = omega (arith, region-fields, one-of, u .room)
+  pub fewer : {next : Plan} → next ≡ behindOf p → leftOf next < leftOf p
+  fewer e = rw e (omega (arith, behind-left p h))
 
   -- the row that was asked for holds the region's numbers
-  module _ (asked : AskedRow) (e : asked ≡ nextOf p) where
-    row-is : asked .row ≡ rowOf (numbersOf p)
-    unfolding nextOf
-    row-is = ap (λ (a : AskedRow). a .row) e
+  module _ (row : Row) (is : row ≡ rowOf (numbersOf p)) where
+    pub row-held : row .count ≤ length (row .values)
+    row-held = row-inside (numbersOf p) region-few row is
 
-    plan-is : asked .plan ≡ behindOf p
-    unfolding nextOf
-    plan-is = ap (λ (a : AskedRow). a .plan) e
+    pub row-room : at + row .count ≤ length l
+    row-room = omega (arith, row-count (numbersOf p) region-few row is, numbers-count p h, one-of, u .room)
 
-    pub row-held : asked .row .count ≤ length (asked .row .values)
-    row-held = row-inside (numbersOf p) region-few (asked .row) row-is
-
-    pub row-room : at + asked .row .count ≤ length l
-    row-room = omega (arith, row-count (numbersOf p) region-few (asked .row) row-is, region-room)
-
-    pub again : (m : List ℕ) (r : ℕ) → Put l m at (take (asked .row .count) (asked .row .values)) r → Underway l₀ m p₀ (asked .plan) r (left - 1)
-    unfolding numbersFrom behindAll
-    again m r put =
-        let o : Put l m at (numbersOf p) r = put-as put (row-numbers (numbersOf p) region-few (asked .row) row-is) in
-        let n : left ≡ suc (left - 1) = omega arith in
-        let b : behindAll left p ≡ behindAll (left - 1) (behindOf p) = ap (λ (k : ℕ). behindAll k p) n in
-        let f : numbersFrom left p ≡ numbersOf p ++ numbersFrom (left - 1) (behindOf p) = ap (λ (k : ℕ). numbersFrom k p) n in
-        rw plan-is
+    pub again : (m : List ℕ) (next : Plan) (r : ℕ) → next ≡ behindOf p → Put l m at (take (row .count) (row .values)) r → Underway l₀ m p₀ next r
+    unfolding numbersLeft numbersFrom behindAll
+    again m next r on put =
+        let o : Put l m at (numbersOf p) r = put-as put (row-numbers (numbersOf p) region-few row is) in
+        let less : leftOf (behindOf p) ≡ leftOf p - 1 = behind-left p h in
+        let n : leftOf p ≡ suc (leftOf (behindOf p)) = omega (arith, less) in
+        let b : behindAll (leftOf p) p ≡ behindAll (leftOf (behindOf p)) (behindOf p) = ap (λ (k : ℕ). behindAll k p) n in
+        let f : numbersLeft p ≡ numbersOf p ++ numbersLeft (behindOf p) = ap (λ (k : ℕ). numbersFrom k p) n in
+        rw on
         (record {
-          left-is = behind-left p (omega (arith, u .left-is)) ∙ ap (λ (k : ℕ). k - 1) (u .left-is);
-          room = rw (behind-fields p) (omega (arith, region-fields, one-of, u .room, o .next, put-length o));
+          room = rw (behind-fields p, less) (omega (arith, numbers-count p h, one-of, u .room, o .next, put-length o));
           same = put-length o ∙ u .same;
           plan = sym b ∙ u .plan;
-          slots = rw (o .next, o .bytes) (sym (sets-append (numbersOf p) (numbersFrom (left - 1) (behindOf p)) l at) ∙ sym (ap (λ (ns : List ℕ). sets l at ns) f) ∙ u .slots);
+          slots = rw (o .next, o .bytes) (sym (sets-append (numbersOf p) (numbersLeft (behindOf p)) l at) ∙ sym (ap (λ (ns : List ℕ). sets l at ns) f) ∙ u .slots);
         })
 
-pub ended : {l₀ l : List ℕ} {p₀ p : Plan} {at left : ℕ} → Underway l₀ l p₀ p at left → left ≤ 0 → (p ≡ behindAll (leftOf p₀) p₀) × (l ≡ sets l₀ 0 (numbersLeft p₀))
-unfolding numbersFrom behindAll
-ended {l = l} {p = p} {at = at} {left = left} u h =
-    let z : left ≡ 0 = omega arith in
-    let b : behindAll left p ≡ p = ap (λ (k : ℕ). behindAll k p) z in
-    let f : numbersFrom left p ≡ [] = ap (λ (k : ℕ). numbersFrom k p) z in
+pub ended : {l₀ l : List ℕ} {p₀ p : Plan} {at : ℕ} → Underway l₀ l p₀ p at → leftOf p ≤ 0 → (p ≡ behindAll (leftOf p₀) p₀) × (l ≡ sets l₀ 0 (numbersLeft p₀))
+unfolding numbersLeft numbersFrom behindAll
+ended {l = l} {p = p} {at = at} u h =
+    let z : leftOf p ≡ 0 = omega arith in
+    let b : behindAll (leftOf p) p ≡ p = ap (λ (k : ℕ). behindAll k p) z in
+    let f : numbersLeft p ≡ [] = ap (λ (k : ℕ). numbersFrom k p) z in
     (sym b ∙ u .plan, sym (ap (λ (ns : List ℕ). sets l at ns) f) ∙ u .slots)
+
+-- the loop that leaves the ranges out, seen with them
+module _ (ranges : TextureRanges) (p : TexturePlan) (asked : AskedTexture) (is : asked ≡ X.nextOf p) where
+  pub row-with : (row : Row) → row ≡ rowOf (textureNumbers (asked .answer)) → row ≡ rowOf (numbersOf (Textures (texturesWith ranges p)))
+  unfolding numbersOf
+  row-with row e = e ∙ ap (λ (a : AskedTexture). rowOf (textureNumbers (a .answer))) is ∙ sym (ap rowOf (numbers-with ranges p))
+
+  pub next-with : (q : TexturePlan) → q ≡ texturesWith Absent (asked .plan) → Textures (texturesWith ranges q) ≡ behindOf (Textures (texturesWith ranges p))
+  next-with q e =
+      ap (λ (n : TexturePlan). Textures (texturesWith ranges n)) e
+      ∙ ap (λ (a : AskedTexture). Textures (texturesWith ranges (a .plan))) is
+      ∙ sym (behind-with ranges p)
+
+-- a plan of a kind that is known
+pub room-of : (n : ℕ) (p k : Plan) → p ≡ k → leftOf p * fieldsOf p ≤ n → leftOf k * fieldsOf k ≤ n
+room-of n p k e h = rw e at h
+
+pub all-of : (l m : List ℕ) (p k r : Plan) → p ≡ k → (r ≡ behindAll (leftOf k) k) × (m ≡ sets l 0 (numbersLeft k)) → (r ≡ behindAll (leftOf p) p) × (m ≡ sets l 0 (numbersLeft p))
+all-of l m p k r e h = rw e h
 
 -- ---- room
 

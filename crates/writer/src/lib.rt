@@ -4,12 +4,16 @@ ghost use Prim.Native.Nat.{_+_, _*_, _≤_};
 ghost use lib.ListN.{length, take};
 ghost use lib.Seq.{sets};
 ghost use Rattle.texts.specs.Text.{Put};
-ghost use Rattle.plans.specs.Regions.{leftOf, fieldsOf};
+ghost use Rattle.plans.specs.Regions.{leftOf, fieldsOf, texturesWith};
 ghost use Rattle.writer.specs.Writing.{numbersLeft, behindAll, fits, slotsOf, writtenOf, EveryEntry};
+use buffer_copies::BufferPlan;
+use buffer_texture_plans::BufferTexturePlan;
 use plans::Plan;
 use refusals::Checked;
 use refusals::TransferError;
 use rows::Row;
+use texture_plans::TexturePlan;
+use texture_plans::TextureRanges;
 
 // Whether the regions were written, and the plan behind them; 38 and the plan as it is where the slice is too short.
 pub struct Written {
@@ -59,23 +63,89 @@ fn store_row(out: &mut [u64], at: usize, row: Row) -> usize
     store(out, at, &values[..count])
 }
 
+// The regions left of a plan of each kind, and the plan behind them. Each loop tests `left` itself: the compiler then knows that there is a
+// next region, and its numbers stay in registers.
+pub fn write_buffers(plan: BufferPlan, out: &mut [u64]) -> BufferPlan
+    requires { ⌜ plan .left * 3 ≤ length (now out) ⌝ }
+    ensures { λ r. ⌜ Plan.Buffers r ≡ behindAll (plan .left) (Plan.Buffers plan) ⌝ }
+    ensures { λ _. ⌜ now (out .exit) ≡ sets (now (out .entry)) 0 (numbersLeft (Plan.Buffers plan)) ⌝ }
+{
+    let mut p = plan;
+    let mut at: usize = 0;
+    while p.left > 0 {
+        let asked = p.next();
+        let answer = asked.answer;
+        let next = asked.plan;
+        at = store_row(out, at, plans::buffer_row(answer));
+        p = next;
+    }
+    p
+}
+
+pub fn write_buffer_textures(plan: BufferTexturePlan, out: &mut [u64]) -> BufferTexturePlan
+    requires { ⌜ plan .left * 12 ≤ length (now out) ⌝ }
+    ensures { λ r. ⌜ Plan.BufferTexture r ≡ behindAll (plan .left) (Plan.BufferTexture plan) ⌝ }
+    ensures { λ _. ⌜ now (out .exit) ≡ sets (now (out .entry)) 0 (numbersLeft (Plan.BufferTexture plan)) ⌝ }
+{
+    let mut p = plan;
+    let mut at: usize = 0;
+    while p.left > 0 {
+        let asked = p.next();
+        let answer = asked.answer;
+        let next = asked.plan;
+        at = store_row(out, at, plans::buffer_texture_row(answer));
+        p = next;
+    }
+    p
+}
+
+fn textures_with(p: TexturePlan, ranges: TextureRanges) -> TexturePlan
+    ensures { λ r. ⌜ r ≡ texturesWith ranges p ⌝ }
+{
+    let src = p.src;
+    let dst = p.dst;
+    let size = p.size;
+    let parts = p.parts;
+    TexturePlan {
+        src,
+        dst,
+        size,
+        parts,
+        part: p.part,
+        left: p.left,
+        ranges,
+    }
+}
+
+// The ranges stay out of the loop: copied from plan to plan they would take most of its time.
+pub fn write_textures(plan: TexturePlan, out: &mut [u64]) -> TexturePlan
+    requires { ⌜ plan .left * 15 ≤ length (now out) ⌝ }
+    ensures { λ r. ⌜ Plan.Textures r ≡ behindAll (plan .left) (Plan.Textures plan) ⌝ }
+    ensures { λ _. ⌜ now (out .exit) ≡ sets (now (out .entry)) 0 (numbersLeft (Plan.Textures plan)) ⌝ }
+{
+    let ranges = plan.ranges;
+    let mut p = plan;
+    let mut at: usize = 0;
+    while p.left > 0 {
+        let asked = p.next();
+        let answer = asked.answer;
+        let next = asked.plan;
+        at = store_row(out, at, plans::texture_row(answer));
+        p = textures_with(next, TextureRanges::Absent);
+    }
+    textures_with(p, ranges)
+}
+
 fn write_all(plan: Plan, out: &mut [u64]) -> Plan
     requires { ⌜ leftOf plan * fieldsOf plan ≤ length (now out) ⌝ }
     ensures { λ r. ⌜ r ≡ behindAll (leftOf plan) plan ⌝ }
     ensures { λ _. ⌜ now (out .exit) ≡ sets (now (out .entry)) 0 (numbersLeft plan) ⌝ }
 {
-    let mut p = plan;
-    let mut left = plan.left();
-    let mut at: usize = 0;
-    while left > 0 {
-        let asked = p.next();
-        let row = asked.row;
-        let next = asked.plan;
-        at = store_row(out, at, row);
-        p = next;
-        left -= 1;
+    match plan {
+        Plan::Buffers(p) => Plan::Buffers(write_buffers(p, out)),
+        Plan::BufferTexture(p) => Plan::BufferTexture(write_buffer_textures(p, out)),
+        Plan::Textures(p) => Plan::Textures(write_textures(p, out)),
     }
-    p
 }
 
 // The regions left, in sequence from the slice's start; no number past them changes, and none at all where the slice is too

@@ -8,6 +8,4 @@ use Rattle.buffer_copies.proofs.copy_buffer_to_buffer.Tie as tie
 
 pub copy-buffer-to-buffer-spec : {M : Type 1} → statement M
 unfolding bufferToBuffer
-copy-buffer-to-buffer-spec =
-    tie.close
-    (tie.spec (λ c κs. search needs) (λ c. search needs) (λ c. search needs) (λ c κs. search needs) (λ c. search planned depth 14) (λ c κs. search needs) (λ c. search needs) (λ c. search needs) (λ c κs. search needs) (λ c. search planned depth 14) (λ c. search planned depth 14) (λ c κs. search needs) (λ c. search planned depth 14) (λ c κs. search needs) (λ c. search planned depth 14) (λ c. search planned depth 14) (λ c κs. search needs) (λ c. search planned depth 14))
+copy-buffer-to-buffer-spec = tie.close (tie.spec (λ c κs. search needs) (λ c. search needs) (λ c. search needs) (λ c κs. search needs) (λ c. search planned depth 14) (λ c κs. search needs) (λ c. search needs) (λ c. search needs) (λ c κs. search needs) (λ c. search planned depth 14) (λ c κs. search needs) (λ c. search planned depth 14))

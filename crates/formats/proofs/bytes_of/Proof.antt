@@ -1,5 +1,6 @@
 -- `bytes_of` meets its contract.
 -- Assumes nothing.
+use borrow.Author.Needs.{needs}
 use Rattle.checks.proofs.Rules.{lines}
 use Rattle.formats.specs.Aspects.{bytesOf}
 use Rattle.formats.proofs.bytes_of.Statement.{statement}
@@ -7,6 +8,4 @@ use Rattle.formats.proofs.bytes_of.Tie as tie
 
 pub bytes-of-spec : {M : Type 1} → statement M
 unfolding bytesOf
-bytes-of-spec =
-    tie.close
-    (tie.spec (λ c. search lines depth 10) (λ c. search lines depth 10) (λ c. search lines depth 10) (λ c. search lines depth 10) (λ c. search lines depth 10) (λ c. search lines depth 10))
+bytes-of-spec = tie.close (tie.spec (λ c κs. search needs) (λ c. search lines depth 10) (λ c κs. search needs) (λ c. search lines depth 10) (λ c κs. search needs) (λ c. search lines depth 10) (λ c κs. search needs) (λ c. search lines depth 10) (λ c κs. search needs) (λ c. search lines depth 10) (λ c. search lines depth 10))

@@ -2,15 +2,15 @@
 -- Assumes nothing.
 use borrow.Author.Needs.{needs}
 use Rattle.listing.specs.Listing.{texturePlaces, bufferPlaces, textureLines, bufferLines}
-use Rattle.plan_sheet.proofs.Places.{front-length, front-places, textures-few, buffers-few}
+use Rattle.sheet.proofs.Places.{front-length, front-places, textures-few, buffers-few}
 use Rattle.plan_sheet.proofs.list_good.Statement.{statement}
 use Rattle.plan_sheet.proofs.list_good.Tie as tie
 
 slice-aggregate-list : tie.Need-slice-aggregate-list
-slice-aggregate-list c = front-length _ _ _ _ _ _ (c .before .before .before .before .before .before .before .find-places .ensures) (c .before .before .at-most .ensures)
+slice-aggregate-list c = front-length _ _ _ _ _ _ (c .before .before .before .before .before .before .before .find-places .ensures) (c .before .before .kept .ensures)
 
 slice-aggregate-list-2 : tie.Need-slice-aggregate-list-2
-slice-aggregate-list-2 c = front-length _ _ _ _ _ _ (c .before .before .before .before .before .find-places2 .ensures) (c .before .before .at-most2 .ensures)
+slice-aggregate-list-2 c = front-length _ _ _ _ _ _ (c .before .before .before .before .before .find-places2 .ensures) (c .before .before .kept2 .ensures)
 
 list-requires : tie.Need-list-requires
 unfolding texturePlaces bufferPlaces textureLines bufferLines
@@ -18,8 +18,8 @@ list-requires c κs =
     let good = c .before .before .before .before .before .before .before .before .before .before .before .before .before .pre in (
       good,
       (
-        front-places _ _ _ _ _ _ (c .before .before .before .before .before .before .before .before .find-places .ensures) (c .before .before .before .at-most .ensures) (textures-few _ _ good),
-        front-places _ _ _ _ _ _ (c .before .before .before .before .before .find-places2 .ensures) (c .before .before .at-most2 .ensures) (buffers-few _ _ good),
+        front-places _ _ _ _ _ _ (c .before .before .before .before .before .before .before .before .find-places .ensures) (c .before .before .before .kept .ensures) (textures-few _ _ good),
+        front-places _ _ _ _ _ _ (c .before .before .before .before .before .find-places2 .ensures) (c .before .before .kept2 .ensures) (buffers-few _ _ good),
       ),
     )
 

@@ -4,7 +4,8 @@ use borrow.Author.Needs.{needs}
 use native.Mathlib.Omega.{arith}
 use lib.ListN.{length}
 use Rattle.listing.specs.Listing.{textLeft, listingOf}
-use Rattle.replay.proofs.Lists.{Comparing, comparing-starts, comparing-off, comparing-inside, comparing-on, comparing-ends, comparing-less, begun-listing}
+use Rattle.listing.proofs.Left.{begun-listing}
+use Rattle.replay.proofs.Lists.{Comparing, comparing-starts, comparing-off, comparing-inside, comparing-on, comparing-ends, comparing-less}
 use Rattle.replay.proofs.compare.Statement.{statement}
 use Rattle.replay.proofs.compare.Tie as tie
 

@@ -1,33 +1,36 @@
 -- `write_all` meets its contract.
 -- Assumes nothing.
-use mathlib.Core.Path.{_≡_, ap, _∙_}
-use native.Mathlib.Omega.{arith}
 use borrow.Author.Needs.{needs}
-use Rattle.writer.proofs.Writes.{Underway, begun, row-held, row-room, again, ended}
+use Rattle.plans.specs.Regions.{leftOf, fieldsOf}
+use Rattle.writer.proofs.Writes.{room-of, all-of}
 use Rattle.writer.proofs.write_all.Statement.{statement}
 use Rattle.writer.proofs.write_all.Tie as tie
 
-abbrev Inv-loop : tie.InvT-loop
-Inv-loop out₀ p₀ left₀ at₀ out p left at = Underway out₀ out p₀ p at left
+write-buffers-requires : tie.Need-write-buffers-requires
+unfolding leftOf fieldsOf
+write-buffers-requires c κs = room-of _ _ _ (c .before .before .plan .given .1) (c .before .before .before .before .before .pre)
 
-abbrev μ-loop : tie.MeasureT-loop
-μ-loop out₀ p₀ left₀ at₀ out p left at = left
+write-buffer-textures-requires : tie.Need-write-buffer-textures-requires
+unfolding leftOf fieldsOf
+write-buffer-textures-requires c κs = room-of _ _ _ (c .before .before .plan2 .given .1) (c .before .before .before .before .before .pre)
 
-store-row-requires : tie.Need-store-row-requires Inv-loop μ-loop
-store-row-requires c κs =
-    let n = c .before .before in
-    let w = n .before in
-    let u = w .before .loop .inv in
-    (row-held u (w .loop-test .taken) _ (n .next .ensures), row-room u (w .loop-test .taken) _ (n .next .ensures))
+write-textures-requires : tie.Need-write-textures-requires
+unfolding leftOf fieldsOf
+write-textures-requires c κs = room-of _ _ _ (c .before .before .plan3 .given .1) (c .before .before .before .before .before .pre)
 
-loop-again : tie.Need-loop-again Inv-loop μ-loop
-loop-again c =
-    let s = c .before .before in
-    let n = s .before .before .before in
-    let w = n .before in
-    again (w .before .loop .inv) (w .loop-test .taken) _ (n .next .ensures) _ _ (s .store-row .ensures)
+returns : tie.Need-returns
+unfolding leftOf
+returns c = let w = c .before .before in all-of _ _ _ _ _ (w .before .before .before .plan .given .1) (w .write-buffers .ensures)
+
+returns-2 : tie.Need-returns-2
+unfolding leftOf
+returns-2 c = let w = c .before .before in all-of _ _ _ _ _ (w .before .before .before .plan2 .given .1) (w .write-buffer-textures .ensures)
+
+returns-3 : tie.Need-returns-3
+unfolding leftOf
+returns-3 c = let w = c .before .before in all-of _ _ _ _ _ (w .before .before .before .plan3 .given .1) (w .write-textures .ensures)
 
 pub write-all-spec : {M : Type 1} → statement M
 write-all-spec =
     tie.close
-    (tie.spec Inv-loop μ-loop (search needs) (λ c. begun _ _ _ (c .left .ensures) (c .before .before .pre)) (search needs) store-row-requires (search needs) (search needs) loop-again (λ c. c .before .loop .inv .same) (λ c. ended (c .before .loop .inv) (c .loop-test .left)))
+    (tie.spec (search needs) write-buffers-requires (search needs) write-buffer-textures-requires (search needs) write-textures-requires (search needs) returns (search needs) returns-2 (search needs) returns-3)
