@@ -1,0 +1,118 @@
+// Copies from a texture into a buffer, for callers in C and Rust. A crate of its own, so that its archive holds one copy function, into
+// which the compiler puts every rule.
+ghost use mathlib.Core.Path.{_≡_};
+ghost use Rattle.words.specs.Words.{copyNumber, copyPlan, copyRangesOf};
+ghost use Rattle.c_downloads.specs.Answer.{known, answer};
+use buffer_texture::BufferTexturePlanned;
+use formats::TextureAspect;
+use records::Device;
+use refusals::TransferError;
+
+// The numbers past this one name no aspect.
+const LAST_ASPECT: u32 = 5;
+
+fn plan_known(
+    depth_texture_and_buffer_copies: bool,
+    buffer_size: u64,
+    buffer_usage: u32,
+    offset: u64,
+    has_bytes_per_row: bool,
+    bytes_per_row: u32,
+    has_rows_per_image: bool,
+    rows_per_image: u32,
+    texture: &[u32; 8],
+    view: &[u32; 5],
+    size: &[u32; 3],
+) -> BufferTexturePlanned
+    ensures { λ r. ⌜ r ≡ known «depth_texture_and_buffer_copies» «buffer_size» «buffer_usage» offset «has_bytes_per_row» «bytes_per_row» «has_rows_per_image» «rows_per_image» (now (texture .entry)) (now (view .entry)) (now (size .entry)) ⌝ }
+{
+    let device = Device {
+        depth_texture_and_buffer_copies,
+        unrestricted_index_buffer: false,
+    };
+    let b = c_records::buffer_from(buffer_size, buffer_usage);
+    let layout = c_records::layout_from(
+        offset,
+        has_bytes_per_row,
+        bytes_per_row,
+        has_rows_per_image,
+        rows_per_image,
+    );
+    let t = c_records::texture_from(texture);
+    let v = c_records::view_from(view);
+    let s = c_records::size_from(size);
+    buffer_texture::copy_texture_to_buffer(device, t, v, b, layout, s)
+}
+
+fn plan_copy(
+    depth_texture_and_buffer_copies: bool,
+    buffer_size: u64,
+    buffer_usage: u32,
+    offset: u64,
+    has_bytes_per_row: bool,
+    bytes_per_row: u32,
+    has_rows_per_image: bool,
+    rows_per_image: u32,
+    texture: &[u32; 8],
+    view: &[u32; 5],
+    size: &[u32; 3],
+) -> BufferTexturePlanned
+    ensures { λ r. ⌜ r ≡ answer «depth_texture_and_buffer_copies» «buffer_size» «buffer_usage» offset «has_bytes_per_row» «bytes_per_row» «has_rows_per_image» «rows_per_image» (now (texture .entry)) (now (view .entry)) (now (size .entry)) ⌝ }
+{
+    if view[4] > LAST_ASPECT {
+        return BufferTexturePlanned::Refused(TransferError::InvalidTextureAspect {
+            format: texture[0],
+            aspect: TextureAspect::Plane2,
+        });
+    }
+    plan_known(
+        depth_texture_and_buffer_copies,
+        buffer_size,
+        buffer_usage,
+        offset,
+        has_bytes_per_row,
+        bytes_per_row,
+        has_rows_per_image,
+        rows_per_image,
+        texture,
+        view,
+        size,
+    )
+}
+
+// 0 for an accepted copy, else the number of its refusal; its plan and its ranges, or the refusal's details.
+#[no_mangle]
+pub extern "C" fn copy_planner_texture_to_buffer(
+    depth_texture_and_buffer_copies: bool,
+    buffer_size: u64,
+    buffer_usage: u32,
+    offset: u64,
+    has_bytes_per_row: bool,
+    bytes_per_row: u32,
+    has_rows_per_image: bool,
+    rows_per_image: u32,
+    texture: &[u32; 8],
+    view: &[u32; 5],
+    size: &[u32; 3],
+    plan: &mut [u64; 15],
+    ranges: &mut [u64; 12],
+) -> u32
+    ensures { λ r. ⌜ r ≡ copyNumber (answer «depth_texture_and_buffer_copies» «buffer_size» «buffer_usage» offset «has_bytes_per_row» «bytes_per_row» «has_rows_per_image» «rows_per_image» (now (texture .entry)) (now (view .entry)) (now (size .entry))) ⌝ }
+    ensures { λ _. ⌜ now (plan .exit) ≡ copyPlan (answer «depth_texture_and_buffer_copies» «buffer_size» «buffer_usage» offset «has_bytes_per_row» «bytes_per_row» «has_rows_per_image» «rows_per_image» (now (texture .entry)) (now (view .entry)) (now (size .entry))) ⌝ }
+    ensures { λ _. ⌜ now (ranges .exit) ≡ copyRangesOf (answer «depth_texture_and_buffer_copies» «buffer_size» «buffer_usage» offset «has_bytes_per_row» «bytes_per_row» «has_rows_per_image» «rows_per_image» (now (texture .entry)) (now (view .entry)) (now (size .entry))) ⌝ }
+{
+    let planned = plan_copy(
+        depth_texture_and_buffer_copies,
+        buffer_size,
+        buffer_usage,
+        offset,
+        has_bytes_per_row,
+        bytes_per_row,
+        has_rows_per_image,
+        rows_per_image,
+        texture,
+        view,
+        size,
+    );
+    words::put_copy(planned, plan, ranges)
+}

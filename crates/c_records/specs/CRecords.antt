@@ -1,0 +1,56 @@
+-- Records and figures from numbers, as callers in other languages hand them.
+use Prim.Native.Nat.{ℕ}
+use mathlib.Core.Bool.{Bool, false}
+use mathlib.Core.List.{List}
+use lib.ListN.{getD}
+use Rattle.checks.specs.Checks.{pick}
+use Rattle.measures.specs.declared.Extent3d.{Extent3d}
+use Rattle.measures.specs.declared.OptionU32.{OptionU32}
+use Rattle.measures.specs.declared.OptionU32.the-variants as W
+use Rattle.measures.specs.declared.OptionU64.{OptionU64}
+use Rattle.measures.specs.declared.OptionU64.the-variants as L
+use Rattle.records.specs.declared.Buffer.{Buffer}
+use Rattle.records.specs.declared.Texture.{Texture}
+use Rattle.records.specs.declared.TexelCopyTextureInfo.{TexelCopyTextureInfo}
+use Rattle.records.specs.declared.TexelCopyBufferLayout.{TexelCopyBufferLayout}
+use Rattle.job_records.specs.Records.{aspectOf}
+
+-- a number, where it is given
+abbrev pub given : Bool → ℕ → OptionU32
+given isGiven n = pick isGiven (W.Given n) W.Absent
+
+abbrev pub givenSize : Bool → ℕ → OptionU64
+givenSize isGiven n = pick isGiven (L.Given n) L.Absent
+
+abbrev pub bufferFrom : ℕ → ℕ → Buffer
+bufferFrom size usage = record { size = size; usage = record { 0 = usage } }
+
+-- offset, bytes per row, rows per image
+abbrev pub layoutFrom : ℕ → Bool → ℕ → Bool → ℕ → TexelCopyBufferLayout
+layoutFrom offset hasBytes bytes hasRows rows =
+    record { offset = offset; «bytes_per_row» = given hasBytes bytes; «rows_per_image» = given hasRows rows }
+
+-- format, dimension, width, height, depth or layers, levels, samples, usage
+unfoldable pub textureFrom : List ℕ → Texture
+textureFrom t =
+    record {
+      format = getD t 0 0;
+      dimension = getD t 1 0;
+      size = record { width = getD t 2 0; height = getD t 3 0; «depth_or_array_layers» = getD t 4 0 };
+      «mip_level_count» = getD t 5 0;
+      «sample_count» = getD t 6 0;
+      usage = record { 0 = getD t 7 0 };
+    }
+
+-- level, x, y, z, aspect
+unfoldable pub viewFrom : List ℕ → TexelCopyTextureInfo
+viewFrom v =
+    record {
+      «mip_level» = getD v 0 0;
+      origin = record { x = getD v 1 0; y = getD v 2 0; z = getD v 3 0 };
+      aspect = aspectOf (getD v 4 0);
+    }
+
+-- width, height, depth or layers
+unfoldable pub sizeFrom : List ℕ → Extent3d
+sizeFrom s = record { width = getD s 0 0; height = getD s 1 0; «depth_or_array_layers» = getD s 2 0 }
