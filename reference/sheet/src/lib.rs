@@ -19,16 +19,21 @@
 mod bounds;
 mod listing;
 mod parse;
+mod prepared;
 mod records;
 mod refusal;
 mod run;
 
 pub use bounds::{largest_level_count, MAX_BUFFER_SIZE};
-pub use listing::{append_region_numbers, sheet_text, write_listing, Listing, ABSENT};
+pub use listing::{
+    append_region_numbers, buffer_copy_numbers, buffer_texture_copy_numbers, sheet_text,
+    texture_copy_numbers, write_listing, Listing, ABSENT,
+};
 pub use parse::{parse, IllSheet, MAX_COPIES, MAX_RECORDS, MAX_SHEET_BYTES};
+pub use prepared::Prepared;
 pub use records::{
     Buffer, BufferView, Copy, CopyKind, Device, Extent, Sheet, Texture, TextureView,
 };
-pub use reference_core::{InitAction, MemoryInitKind, Recorder};
+pub use reference_core::{CommandEncoderError, InitAction, MemoryInitKind, Recorder};
 pub use refusal::{Refusal, Side};
 pub use run::{record_copy, run_copy, silence_copy_panics, Objects, Outcome};

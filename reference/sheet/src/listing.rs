@@ -57,21 +57,25 @@ impl Listing {
 pub fn append_region_numbers(recorder: &Recorder, numbers: &mut Vec<u64>) {
     let encoder = recorder.encoder();
     for region in &encoder.buffer_copies {
-        numbers.extend(buffer_numbers(region));
+        numbers.extend(buffer_copy_numbers(region));
     }
     for region in &encoder.buffer_texture_copies {
-        numbers.extend(buffer_texture_numbers(region));
+        numbers.extend(buffer_texture_copy_numbers(region));
     }
     for region in &encoder.texture_copies {
-        numbers.extend(texture_numbers(region));
+        numbers.extend(texture_copy_numbers(region));
     }
 }
 
-fn buffer_numbers(region: &hal::BufferCopy) -> [u64; BUFFER_NUMBERS] {
+/// The two offsets and the size.
+pub fn buffer_copy_numbers(region: &hal::BufferCopy) -> [u64; BUFFER_NUMBERS] {
     [region.src_offset, region.dst_offset, region.size.get()]
 }
 
-fn buffer_texture_numbers(region: &hal::BufferTextureCopy) -> [u64; BUFFER_TEXTURE_NUMBERS] {
+/// Offset, strides ([`ABSENT`] where left out), base and size.
+pub fn buffer_texture_copy_numbers(
+    region: &hal::BufferTextureCopy,
+) -> [u64; BUFFER_TEXTURE_NUMBERS] {
     let layout = &region.buffer_layout;
     let [level, layer, x, y, z, aspects] = base_numbers(&region.texture_base);
     let [width, height, depth] = extent_numbers(&region.size);
@@ -91,7 +95,8 @@ fn buffer_texture_numbers(region: &hal::BufferTextureCopy) -> [u64; BUFFER_TEXTU
     ]
 }
 
-fn texture_numbers(region: &hal::TextureCopy) -> [u64; TEXTURE_NUMBERS] {
+/// The base of the source, that of the destination, and the size.
+pub fn texture_copy_numbers(region: &hal::TextureCopy) -> [u64; TEXTURE_NUMBERS] {
     let mut numbers = [0; TEXTURE_NUMBERS];
     numbers[..6].copy_from_slice(&base_numbers(&region.src_base));
     numbers[6..12].copy_from_slice(&base_numbers(&region.dst_base));
@@ -151,13 +156,13 @@ impl Lines {
             self.init_action(action);
         }
         for region in &encoder.buffer_copies {
-            self.region(&buffer_numbers(region));
+            self.region(&buffer_copy_numbers(region));
         }
         for region in &encoder.buffer_texture_copies {
-            self.buffer_texture_region(&buffer_texture_numbers(region));
+            self.buffer_texture_region(&buffer_texture_copy_numbers(region));
         }
         for region in &encoder.texture_copies {
-            self.region(&texture_numbers(region));
+            self.region(&texture_copy_numbers(region));
         }
     }
 

@@ -9,8 +9,8 @@ use reference_core::{self as core, CopySide, Recorder};
 
 use crate::{Buffer, BufferView, Copy, Device, Extent, Refusal, Sheet, Side, Texture, TextureView};
 
-type CoreBufferInfo = wgt::TexelCopyBufferInfo<Arc<core::Buffer>>;
-type CoreTextureInfo = wgt::TexelCopyTextureInfo<Arc<core::Texture>>;
+pub(crate) type CoreBufferInfo = wgt::TexelCopyBufferInfo<Arc<core::Buffer>>;
+pub(crate) type CoreTextureInfo = wgt::TexelCopyTextureInfo<Arc<core::Texture>>;
 
 /// What became of a copy. The regions and ranges of an accepted copy are in
 /// the recorder.
@@ -29,16 +29,16 @@ pub enum Outcome {
 /// them. A record out of bounds has no object.
 #[derive(Debug)]
 pub struct Objects {
-    device: Arc<core::Device>,
-    textures: Vec<Option<TextureObject>>,
-    buffers: Vec<Option<CoreBufferInfo>>,
+    pub(crate) device: Arc<core::Device>,
+    pub(crate) textures: Vec<Option<TextureObject>>,
+    pub(crate) buffers: Vec<Option<CoreBufferInfo>>,
 }
 
 /// A texture with one view for each side, so that a copy within one texture
 /// finds both, and a call need not count references.
 #[derive(Debug)]
-struct TextureObject {
-    as_source: CoreTextureInfo,
+pub(crate) struct TextureObject {
+    pub(crate) as_source: CoreTextureInfo,
     as_destination: CoreTextureInfo,
 }
 
@@ -166,7 +166,7 @@ fn find_texture(
         .ok_or(Refusal::texture_record(side))
 }
 
-fn set_layout(info: &mut CoreBufferInfo, view: &BufferView) {
+pub(crate) fn set_layout(info: &mut CoreBufferInfo, view: &BufferView) {
     info.layout = wgt::TexelCopyBufferLayout {
         offset: view.offset,
         bytes_per_row: view.bytes_per_row,
@@ -174,7 +174,7 @@ fn set_layout(info: &mut CoreBufferInfo, view: &BufferView) {
     };
 }
 
-fn set_view(info: &mut CoreTextureInfo, view: &TextureView) {
+pub(crate) fn set_view(info: &mut CoreTextureInfo, view: &TextureView) {
     info.mip_level = view.level;
     info.origin = wgt::Origin3d {
         x: view.x,
@@ -197,7 +197,7 @@ fn texture_aspect(aspect: u32) -> wgt::TextureAspect {
     }
 }
 
-fn core_extent(size: &Extent) -> wgt::Extent3d {
+pub(crate) fn core_extent(size: &Extent) -> wgt::Extent3d {
     wgt::Extent3d {
         width: size.width,
         height: size.height,

@@ -5,7 +5,7 @@ mod common;
 use common::sheet;
 use copy_sheet::{
     append_region_numbers, parse, record_copy, run_copy, silence_copy_panics, Copy, InitAction,
-    MemoryInitKind, Objects, Outcome, Recorder, Refusal, ABSENT,
+    MemoryInitKind, Objects, Outcome, Prepared, Recorder, Refusal, ABSENT,
 };
 
 #[test]
@@ -29,9 +29,44 @@ fn region_numbers() {
     ];
     for (copy, expected) in sheet.copies.iter().zip(expected) {
         assert_eq!(record_copy(&mut recorder, &mut objects, copy), Ok(()));
-        let mut numbers = Vec::new();
-        append_region_numbers(&recorder, &mut numbers);
-        assert_eq!(numbers, expected);
+        assert_eq!(region_numbers_of(&recorder), expected);
+    }
+}
+
+fn region_numbers_of(recorder: &Recorder) -> Vec<u64> {
+    let mut numbers = Vec::new();
+    append_region_numbers(recorder, &mut numbers);
+    numbers
+}
+
+/// A prepared copy is the same call.
+#[test]
+fn prepared_copies() {
+    let text = sheet(
+        &["0 2 4 1 2 1 1 3", "0 2 4 1 2 1 1 1", "22 2 4 1 2 1 1 3"],
+        &["64 12", "64 12"],
+        &[
+            "1 0 4 1 8 12",
+            "2 0 0 256 1 0 0 1 0 0 0 2 1 2",
+            "3 0 8 - - 0 0 1 0 1 0 2 1 1",
+            "4 0 0 1 0 0 0 0 0 2 0 1 0 2 1 1",
+            "4 0 0 1 0 0 0 1 0 2 0 1 0 2 1 1",
+            "4 0 0 1 0 0 0 2 0 2 0 1 0 2 1 1",
+            "1 0 4 2 8 12",
+        ],
+    );
+    let sheet = parse(text.as_bytes()).unwrap();
+    let mut objects = Objects::new(&sheet);
+    let (mut recorder, mut again) = (Recorder::new(), Recorder::new());
+    for copy in &sheet.copies {
+        let recorded = record_copy(&mut recorder, &mut objects, copy);
+        let Some(prepared) = Prepared::new(&objects, copy) else {
+            assert!(recorded.is_err_and(|refusal| refusal.number <= 3));
+            continue;
+        };
+        assert_eq!(prepared.record(&mut again).is_ok(), recorded.is_ok());
+        assert_eq!(region_numbers_of(&again), region_numbers_of(&recorder));
+        assert_eq!(again.init_actions(), recorder.init_actions());
     }
 }
 

@@ -1,0 +1,130 @@
+//! Times the planner and the Rust on the same copies, in turn, in one process.
+
+mod inputs;
+mod layers;
+mod listing;
+mod passes;
+mod race;
+
+use std::fs;
+
+use copy_compare::{Call, Rooms};
+use copy_planner::{BufferTextureCopy, Plan};
+use copy_sheet::Recorder;
+
+use inputs::Inputs;
+use race::{Race, Side};
+
+const KINDS: [&str; 4] = [
+    "buffer_to_buffer",
+    "buffer_to_texture",
+    "texture_to_buffer",
+    "texture_to_texture",
+];
+const VERDICTS: [&str; 2] = ["accepted", "refused"];
+
+/// Layers of the copy with the most regions, and those of the others that show
+/// how the time grows.
+const MOST_LAYERS: usize = 256;
+const LAYERS: [usize; 4] = [1, 16, 64, MOST_LAYERS];
+
+fn main() {
+    print_setting();
+    let sets = inputs::random_inputs();
+    let layers = LAYERS.map(layers::layers);
+    let plans = layers.each_ref().map(layers::plan_of);
+    let sheet = listing::large_sheet();
+
+    let mut races = copy_races(&sets);
+    let most = &layers[LAYERS.len() - 1];
+    let name = format!("ask_{MOST_LAYERS}_layers");
+    races.push(copy_race(name, "one copy, buffer to texture".into(), most));
+    races.push(layers::write_race(&plans[LAYERS.len() - 1]));
+    races.push(listing::race(&sheet));
+    let ratios = races.len();
+    races.extend(plans.iter().map(layers::linearity_race));
+
+    race::run(&mut races);
+    for race in &races[..ratios] {
+        print!("{race}");
+        println!("ratio {} {:.2}\n", race.name, race.ratio());
+    }
+    print_listing_rate(&races[ratios - 1], &sheet);
+    print_linearity(&races[ratios..], &plans);
+}
+
+fn print_setting() {
+    println!("{}", env!("RUSTC_VERSION"));
+    println!("both sides: opt-level 3, link-time optimisation, no overflow checks");
+    if let Some(processor) = processor() {
+        println!("{processor}");
+    }
+    println!(
+        "{} rounds, all sides in turn in each; medians, and 5th to 95th percentile, of a call",
+        race::ROUNDS
+    );
+    println!(
+        "no buffer is cleared between calls: slices, the Rust's recorder and the planner's room \
+         are used again"
+    );
+    println!("a call of a copy is timed with the reading of all its ranges and regions\n");
+}
+
+fn processor() -> Option<String> {
+    let text = fs::read_to_string("/proc/cpuinfo").ok()?;
+    let line = text.lines().find(|line| line.starts_with("model name"))?;
+    Some(line.split(':').nth(1)?.trim().to_owned())
+}
+
+fn copy_races(sets: &[[Inputs; 2]; 4]) -> Vec<Race<'_>> {
+    let mut races = Vec::new();
+    for (kind, sets) in KINDS.iter().zip(sets) {
+        for (verdict, inputs) in VERDICTS.iter().zip(sets) {
+            races.push(copy_race(format!("{kind}_{verdict}"), inputs.mix(), inputs));
+        }
+    }
+    races
+}
+
+/// The planner over the Rust; both must read the same numbers.
+fn copy_race(name: String, about: String, inputs: &Inputs) -> Race<'_> {
+    let calls: Vec<Call> = inputs.calls();
+    let again = calls.clone();
+    let count = calls.len();
+    let (mut recorder, mut rooms) = (Recorder::new(), Rooms::default());
+    let expected = passes::rust_pass(&inputs.prepared, &mut recorder);
+    assert_eq!(passes::planner_pass(&calls, &mut rooms), expected, "{name}");
+    assert_eq!(passes::returning_pass(&calls), expected, "{name}");
+    Race {
+        name,
+        about,
+        sides: vec![
+            Side::new("Rust", count, move || {
+                passes::rust_pass(&inputs.prepared, &mut recorder)
+            }),
+            Side::new("planner", count, move || {
+                passes::planner_pass(&calls, &mut rooms)
+            }),
+            Side::new("planner, plan returned", count, move || {
+                passes::returning_pass(&again)
+            }),
+        ],
+    }
+}
+
+fn print_listing_rate(race: &Race, sheet: &[u8]) {
+    let mut listing = Vec::new();
+    listing::rust_listing(sheet, &mut listing);
+    let seconds = race.sides[1].median() * 1e-9;
+    println!("listing {:.0} bytes/s\n", listing.len() as f64 / seconds);
+}
+
+fn print_linearity(races: &[Race], plans: &[Plan<BufferTextureCopy>]) {
+    for (race, plan) in races.iter().zip(plans) {
+        let count = plan.regions_left() as f64;
+        println!("{}: {}", race.name, race.about);
+        for side in &race.sides {
+            println!("{side}, {:.2} ns a region", side.median() / count);
+        }
+    }
+}
