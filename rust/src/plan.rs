@@ -160,21 +160,23 @@ impl<R: Region> PlanRoom<R> {
         refused: impl FnOnce(u32, &[u64]) -> TransferError,
     ) -> Result<&mut Plan<R>, TransferError> {
         let plan = self.0.as_mut_ptr();
-        // SAFETY: these are the fields of what `plan` points to, apart from one another; a lent one need not be initialised.
-        let (words, ranges) = unsafe {
-            ptr::addr_of_mut!((*plan).0.resources).write(resources);
+        // SAFETY: these are fields of what `plan` points to, apart from one another; a lent one need not be initialised.
+        let (words, ranges): (&mut MaybeUninit<R::Words>, _) = unsafe {
             (
                 &mut *ptr::addr_of_mut!((*plan).0.words).cast(),
                 &mut *ptr::addr_of_mut!((*plan).0.ranges).cast(),
             )
         };
         let number = call(words, ranges);
-        // SAFETY: the call has written every word of both arrays, and a plan has nothing else but the resources.
-        let plan = unsafe { self.0.assume_init_mut() };
         if number != 0 {
-            return Err(refused(number, plan.0.words.as_ref()));
+            // SAFETY: the call has written every word.
+            return Err(refused(number, unsafe { words.assume_init_ref() }.as_ref()));
         }
-        Ok(plan)
+        // SAFETY: the call has written every word of both arrays, and a plan has nothing else but the resources.
+        Ok(unsafe {
+            ptr::addr_of_mut!((*plan).0.resources).write(resources);
+            self.0.assume_init_mut()
+        })
     }
 }
 

@@ -27,12 +27,13 @@ pub struct BufferCopy {
     pub size: u64,
 }
 
-// The region, how many are left, the ranges in their order, and the bytes checked.
+// The ranges in their order, the region, how many are left, and the bytes checked. The ranges come first: in an answer a refusal lies in
+// the same place, and the compiler then takes the region apart at less cost.
 pub struct BufferPlan {
-    pub region: BufferCopy,
-    pub left: u32,
     pub dst_range: OptionRange,
     pub src_range: OptionRange,
+    pub region: BufferCopy,
+    pub left: u32,
     pub bytes_checked: u64,
 }
 

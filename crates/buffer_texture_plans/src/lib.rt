@@ -29,12 +29,13 @@ pub enum CopyRanges {
     Absent,
 }
 
-// The next region, the bytes from one to the next, how many are left, the ranges, and the bytes checked.
+// The ranges, the next region, the bytes from one to the next, how many are left, and the bytes checked. The ranges come first: in an
+// answer a refusal lies in the same place, and the compiler then takes the region apart at less cost.
 pub struct BufferTexturePlan {
+    pub ranges: CopyRanges,
     pub region: BufferTextureCopy,
     pub stride: u64,
     pub left: u32,
-    pub ranges: CopyRanges,
     pub bytes_checked: u64,
 }
 

@@ -1,57 +1,67 @@
--- Answers for a plan `p` that was read as `q`.
+-- Answers for the next region, and for all regions of a plan `p` that was read as `q`.
 -- Assumes nothing.
-use mathlib.Core.Path.{_≡_, refl}
-use mathlib.Core.List.{List, [], _∷_}
-use Prim.Native.Nat.{ℕ, _*_, _≤_, _<_}
+use mathlib.Core.Path.{_≡_, refl, sym, _∙_}
+use mathlib.Core.Bool.{Bool, true, false}
+use mathlib.Core.List.{List}
+use Prim.Native.Nat.{ℕ, _+_, _-_, _*_, _%_, _^_, _≤_, _<_}
 use borrow.Author.Tests.{eq-eqb, ne-eqb, le-leb, lt-leb}
-use lib.ListN.{length, replicate, getD}
+use lib.ListN.{length, set, drop}
 use lib.Seq.{sets}
-use Rattle.checks.specs.Checks.{stop-if}
-use Rattle.rows.specs.Rows.{bufferCopyNumbers, bufferTextureCopyNumbers}
-use Rattle.buffer_copies.specs.declared.NextBufferCopy.{NextBufferCopy}
-use Rattle.buffer_copies.specs.declared.NextBufferCopy.the-variants as B
-use Rattle.buffer_copies.specs.BufferCopies as K
-use Rattle.buffer_texture_plans.specs.declared.NextBufferTextureCopy.{NextBufferTextureCopy}
-use Rattle.buffer_texture_plans.specs.declared.NextBufferTextureCopy.the-variants as U
-use Rattle.buffer_texture_plans.specs.Asking as L
-use Rattle.texture_plans.specs.Asking as X
+use Rattle.formats.specs.Sheet.{PLANE-0, PLANE-1}
 use Rattle.plans.specs.declared.Plan.{Plan}
-use Rattle.plans.specs.declared.Plan.the-variants.{Buffers, BufferTexture, Textures}
-use Rattle.plans.specs.Regions.{leftOf, fieldsOf, bufferNumbers, bufferTextureNumbers, textureNumbers, numbersOf, behindOf}
+use Rattle.plans.specs.Regions.{leftOf, fieldsOf}
 use Rattle.writer.specs.Writing.{numbersLeft, behindAll, fits, slotsOf}
-use Rattle.c_regions.specs.Regions.{wordsOf, nextNumber, nextRegion, nextWords, writtenNumber, writtenWords}
+use Rattle.c_regions.specs.Regions.{wordsOf, word, leftIn, ifLeft, nextNumber, bufferTextureBehind, withAspects, halved, depthOrStencil, textureRegion, partFollows, partOn, writtenNumber, writtenWords}
+use Rattle.c_regions.proofs.Stores.{own-aspects}
 
--- ---- a row's front
+-- ---- the next region, where the code counted n regions left
 
-pub three : (a : NextBufferCopy) (v : List ℕ) → v ≡ sets (replicate 15 0) 0 (bufferNumbers a) → getD v 0 0 ∷ getD v 1 0 ∷ getD v 2 0 ∷ [] ≡ sets (replicate 3 0) 0 (bufferNumbers a)
-unfolding bufferNumbers bufferCopyNumbers
-three (B.Region r) v e = rw e
-three B.NoneLeft v e = rw e
+module _ (w region zeros behind : List ℕ) (n : ℕ) (is : n ≡ leftIn w) where
+  pub none-left : n ≡ 0 → (0 ≡ nextNumber w) × ((zeros ≡ ifLeft w region zeros) × (w ≡ ifLeft w behind w))
+  unfolding nextNumber ifLeft
+  none-left h = rw (eq-eqb (leftIn w) 0 (sym is ∙ h)) (refl, (refl, refl))
 
-pub twelve :
-    (a : NextBufferTextureCopy) (v : List ℕ) → v ≡ sets (replicate 15 0) 0 (bufferTextureNumbers a)
-    → getD v 0 0 ∷ getD v 1 0 ∷ getD v 2 0 ∷ getD v 3 0 ∷ getD v 4 0 ∷ getD v 5 0 ∷ getD v 6 0 ∷ getD v 7 0 ∷ getD v 8 0 ∷ getD v 9 0 ∷ getD v 10 0 ∷ getD v 11 0 ∷ []
-    ≡ sets (replicate 12 0) 0 (bufferTextureNumbers a)
-unfolding bufferTextureNumbers bufferTextureCopyNumbers
-twelve (U.Region r) v e = rw e
-twelve U.NoneLeft v e = rw e
+  pub one-left : (r b : List ℕ) → (n ≡ 0 → ⊥) → r ≡ region → b ≡ behind → (1 ≡ nextNumber w) × ((r ≡ ifLeft w region zeros) × (b ≡ ifLeft w behind w))
+  unfolding nextNumber ifLeft
+  one-left r b h e f = rw (ne-eqb (leftIn w) 0 (λ z. h (is ∙ z))) (refl, (e, f))
 
--- ---- the next region
+-- ---- the words behind it
 
-no-numbers : (p : Plan) → leftOf p ≡ 0 → numbersOf p ≡ []
-unfolding leftOf numbersOf K.nextOf L.nextOf X.nextOf stop-if bufferNumbers bufferTextureNumbers textureNumbers
-no-numbers (Buffers p) h = rw (eq-eqb (p .left) 0 h)
-no-numbers (BufferTexture p) h = rw (eq-eqb (p .left) 0 h)
-no-numbers (Textures p) h = rw (eq-eqb (p .left) 0 h)
+pub layer-behind :
+    (w : List ℕ) (n offset layer : ℕ) → n ≡ leftIn w → offset ≡ (word (set w 0 (n - 1)) 3 + word (set w 0 (n - 1)) 2) % 2 ^ 64
+    → layer ≡ (word (set (set w 0 (n - 1)) 3 offset) 7 + 1) % 2 ^ 32 → set (set (set w 0 (n - 1)) 3 offset) 7 layer ≡ bufferTextureBehind w
+unfolding bufferTextureBehind
+layer-behind w n offset layer is sum next = rw (next, sum, is)
 
-module _ (w : List ℕ) (p q : Plan) (is : q ≡ p) where
-  pub none-left : leftOf q ≡ 0 → (0 ≡ nextNumber p) × ((replicate (fieldsOf q) 0 ≡ nextRegion p) × (w ≡ nextWords w p))
-  unfolding nextNumber nextRegion nextWords
-  none-left h = rw (← is, eq-eqb (leftOf q) 0 h, no-numbers q h) (refl, (refl, refl))
+module _ (w : List ℕ) (follows : Bool) where
+  pub other-part : follows ≡ partFollows (word w 1) (word w 2) → follows ≡ true → set w 2 1 ≡ partOn w
+  unfolding partOn
+  other-part is h = rw (sym is ∙ h)
 
-  pub one-left : (region words : List ℕ) → (leftOf q ≡ 0 → ⊥) → region ≡ nextRegion q → words ≡ wordsOf (behindOf q) → (1 ≡ nextNumber p) × ((region ≡ nextRegion p) × (words ≡ nextWords w p))
-  unfolding nextNumber nextWords
-  one-left region words h r e = rw (← is, ne-eqb (leftOf q) 0 h) (refl, (r, e))
+  pub other-layer :
+      (source destination : ℕ) → follows ≡ partFollows (word w 1) (word w 2) → follows ≡ false → source ≡ (word (set w 2 0) 4 + 1) % 2 ^ 32
+      → destination ≡ (word (set (set w 2 0) 4 source) 10 + 1) % 2 ^ 32 → set (set (set w 2 0) 4 source) 10 destination ≡ partOn w
+  unfolding partOn
+  other-layer source destination is h s d = rw (sym is ∙ h, d, s)
+
+-- ---- a region between textures
+
+module _ (w r : List ℕ) where
+  pub whole : r ≡ withAspects (word w 8) (word w 14) (drop 3 w) → word w 1 ≡ 0 → r ≡ textureRegion w
+  unfolding textureRegion
+  whole e h = rw (eq-eqb (word w 1) 0 h) (e ∙ own-aspects w)
+
+  pub depth-stencil : (aspects : ℕ) → r ≡ withAspects aspects aspects (drop 3 w) → aspects ≡ depthOrStencil (word w 2) → (word w 1 ≡ 0 → ⊥) → word w 1 ≡ 1 → r ≡ textureRegion w
+  unfolding textureRegion
+  depth-stencil aspects e is parted h = rw (ne-eqb (word w 1) 0 parted, eq-eqb (word w 1) 1 h, ← is) e
+
+  pub plane-0 : r ≡ withAspects PLANE-0 PLANE-0 (drop 3 w) → (word w 1 ≡ 0 → ⊥) → (word w 1 ≡ 1 → ⊥) → word w 2 ≡ 0 → r ≡ textureRegion w
+  unfolding textureRegion
+  plane-0 e parted planar h = rw (ne-eqb (word w 1) 0 parted, ne-eqb (word w 1) 1 planar, eq-eqb (word w 2) 0 h) e
+
+  pub plane-1 : r ≡ halved (withAspects PLANE-1 PLANE-1 (drop 3 w)) → (word w 1 ≡ 0 → ⊥) → (word w 1 ≡ 1 → ⊥) → (word w 2 ≡ 0 → ⊥) → r ≡ textureRegion w
+  unfolding textureRegion
+  plane-1 e parted planar h = rw (ne-eqb (word w 1) 0 parted, ne-eqb (word w 1) 1 planar, ne-eqb (word w 2) 0 h) e
 
 -- ---- all regions left
 

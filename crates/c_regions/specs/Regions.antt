@@ -1,14 +1,15 @@
 -- What a caller in another language is answered for a plan's next region, and for all that are left.
-use Prim.Native.Nat.{ℕ}
+use Prim.Native.Nat.{ℕ, _+_, _-_, _/_, _%_, _^_}
+use mathlib.Core.Bool.{Bool, _&&_, not}
 use mathlib.Core.List.{List}
 use lib.Dec.{eqb}
-use lib.ListN.{replicate}
-use lib.Seq.{sets}
-use Rattle.checks.specs.Checks.{pick}
+use lib.ListN.{getD, set, take, drop}
+use Rattle.checks.specs.Checks.{pick, _$_}
+use Rattle.formats.specs.Sheet.{DEPTH, STENCIL, PLANE-0, PLANE-1}
 use Rattle.words.specs.Words.{bufferWords, bufferTextureWords, textureWords}
 use Rattle.plans.specs.declared.Plan.{Plan}
 use Rattle.plans.specs.declared.Plan.the-variants.{Buffers, BufferTexture, Textures}
-use Rattle.plans.specs.Regions.{leftOf, fieldsOf, numbersOf, behindOf}
+use Rattle.plans.specs.Regions.{leftOf}
 use Rattle.writer.specs.Writing.{behindAll, fits}
 
 unfoldable pub wordsOf : Plan → List ℕ
@@ -16,19 +17,86 @@ wordsOf (Buffers p) = bufferWords p
 wordsOf (BufferTexture p) = bufferTextureWords p
 wordsOf (Textures p) = textureWords p
 
--- ---- the next region
+-- ---- the next region, and the words behind it, from a plan's words w; where no region is left: zeros, and w
 
--- 1, or 0 where none is left
-unfoldable pub nextNumber : Plan → ℕ
-nextNumber p = pick (eqb (leftOf p) 0) 0 1
+-- word i
+abbrev pub word : List ℕ → ℕ → ℕ
+word w i = getD w i 0
 
--- its numbers, and zeros where none is left
-unfoldable pub nextRegion : Plan → List ℕ
-nextRegion p = sets (replicate (fieldsOf p) 0) 0 (numbersOf p)
+-- how many regions are left: the low 32 bits of word 0
+abbrev pub leftIn : List ℕ → ℕ
+leftIn w = word w 0 % 2 ^ 32
 
--- the words of the plan behind it; the words as they are where none is left
-unfoldable pub nextWords : List ℕ → Plan → List ℕ
-nextWords w p = pick (eqb (leftOf p) 0) w (wordsOf (behindOf p))
+-- one answer where a region is left, the other where none is
+unfoldable pub ifLeft : {A : Type 0} → List ℕ → A → A → A
+ifLeft w one none = pick (eqb (leftIn w) 0) none one
+
+unfoldable pub nextNumber : List ℕ → ℕ
+nextNumber w = ifLeft w 1 0
+
+-- the words with one region fewer
+abbrev pub oneFewer : List ℕ → List ℕ
+oneFewer w = set w 0 (leftIn w - 1)
+
+-- the words with the layer, which is word i, one on
+abbrev pub layerOn : ℕ → List ℕ → List ℕ
+layerOn i w = set w i ((word w i + 1) % 2 ^ 32)
+
+-- between buffers: words 2, 3, 4
+
+unfoldable pub bufferRegion : List ℕ → List ℕ
+bufferRegion w = take 3 (drop 2 w)
+
+unfoldable pub bufferBehind : List ℕ → List ℕ
+bufferBehind w = oneFewer w
+
+-- between a buffer and a texture: the words from 3 on, of which 3 is the offset and 7 the layer; word 2 is the stride
+
+unfoldable pub bufferTextureRegion : List ℕ → List ℕ
+bufferTextureRegion w = drop 3 w
+
+abbrev pub offsetOn : List ℕ → List ℕ
+offsetOn w = set w 3 ((word w 3 + word w 2) % 2 ^ 64)
+
+unfoldable pub bufferTextureBehind : List ℕ → List ℕ
+bufferTextureBehind w = layerOn 7 (offsetOn (oneFewer w))
+
+-- between textures: a layer is the words from 3 on, of which 4 and 10 are the layers; word 1 is 0 where it is copied whole,
+-- 1 where depth and stencil are its parts, and else planes are; word 2 is 0 at the first part
+
+-- a region r with the aspects of its source and of its destination
+unfoldable pub withAspects : ℕ → ℕ → List ℕ → List ℕ
+withAspects source destination r = set (set r 5 source) 11 destination
+
+abbrev pub halvedAt : ℕ → List ℕ → List ℕ
+halvedAt i r = set r i (word r i / 2)
+
+-- x and y of both sides, width and height divided by 2
+unfoldable pub halved : List ℕ → List ℕ
+halved r = halvedAt 2 $ halvedAt 3 $ halvedAt 8 $ halvedAt 9 $ halvedAt 12 $ halvedAt 13 r
+
+abbrev pub partRegion : ℕ → List ℕ → List ℕ
+partRegion aspects w = withAspects aspects aspects (drop 3 w)
+
+unfoldable pub depthOrStencil : ℕ → ℕ
+depthOrStencil part = pick (eqb part 0) DEPTH STENCIL
+
+unfoldable pub textureRegion : List ℕ → List ℕ
+textureRegion w =
+    pick (eqb (word w 1) 0) (drop 3 w) $
+    pick (eqb (word w 1) 1) (partRegion (depthOrStencil (word w 2)) w) $
+    pick (eqb (word w 2) 0) (partRegion PLANE-0 w) (halved (partRegion PLANE-1 w))
+
+-- whether the layer has another part behind this one
+unfoldable pub partFollows : ℕ → ℕ → Bool
+partFollows parts part = not (eqb parts 0) && eqb part 0
+
+-- the layer's other part, or the first part one layer on
+unfoldable pub partOn : List ℕ → List ℕ
+partOn w = pick (partFollows (word w 1) (word w 2)) (set w 2 1) (layerOn 10 (layerOn 4 (set w 2 0)))
+
+unfoldable pub textureBehind : List ℕ → List ℕ
+textureBehind w = partOn (oneFewer w)
 
 -- ---- all regions left; the slice afterwards is `slotsOf`
 

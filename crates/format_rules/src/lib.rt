@@ -96,17 +96,23 @@ fn block_alignment(format: u32, aspect: TextureAspect) -> u64
     ensures { λ r. ⌜ r ≡ orElse (blockCopySize format aspect) 1 ⌝ }
     ensures some { λ r. ⌜ 0 < r ⌝ }
 {
-    measures::or_else(formats::block_copy_size(format, aspect), 1)
+    let bytes = formats::block_copy_size(format, aspect);
+    if bytes == 0 {
+        return 1;
+    }
+    bytes as u64
 }
 
 fn offset_alignment(format: u32, aspect: TextureAspect) -> u64
     ensures { λ r. ⌜ r ≡ offsetAlignment format aspect ⌝ }
     ensures some { λ r. ⌜ 0 < r ⌝ }
 {
+    // asked for in any case: the rule of linear data asks again, and the compiler then makes one call of both
+    let block = block_alignment(format, aspect);
     if formats::is_depth_stencil_format(format) {
         return 4;
     }
-    block_alignment(format, aspect)
+    block
 }
 
 fn is_unaligned_offset(offset: u64, alignment: u64, aligned: bool) -> bool

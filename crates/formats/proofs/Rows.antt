@@ -7,14 +7,15 @@ use Prim.Native.Nat.{ℕ, zero, suc, _≤_, _<_}
 use native.Mathlib.Omega.{arith}
 use native.Mathlib.Nat.{pos-of-ne-zero}
 use lib.Dec.{eqb, leb, ltb}
-use borrow.Author.Tests.{ltb-true, leb-true, eqb-false}
+use borrow.Author.Tests.{ltb-true, leb-true, eqb-true, eqb-false}
 use Rattle.checks.specs.Checks.{pick, every, stop-if}
 use Rattle.checks.proofs.Rules.{AllTrue, all-true}
 use Rattle.checks.proofs.Tables.{at-each}
 use Rattle.measures.specs.declared.OptionU32.the-variants.{Given, Absent}
+use Rattle.measures.specs.Measure.{orElse}
 use Rattle.formats.specs.declared.FormatRow.{FormatRow}
 use Rattle.formats.specs.declared.TextureAspect.{TextureAspect}
-use Rattle.formats.specs.Sheet.{formats, unknown, rowOf, blockWidth, blockHeight, aspectsOf}
+use Rattle.formats.specs.Sheet.{formats, unknown, rowOf, blockWidth, blockHeight, aspectsOf, none}
 use Rattle.formats.specs.Aspects.{askedOf, bytesOf, blockCopySize, chosenAspects, unlessNone}
 use Rattle.formats.specs.Laws.{EveryFormat, maxBlockSide, maxBlockBytes}
 
@@ -109,13 +110,23 @@ every-format format =
       bytes-few = λ asked n e. let g = given (bytesOf (rowOf format) (chosenAspects format asked)) n e in omega (arith, bytes-few (rowOf format) s (chosenAspects format asked));
     }
 
--- the bytes of a block where what is chosen is colour
+-- the bytes of a block of what is chosen, as a number
+number-of : (bytes : ℕ) (t : Bool) → eqb bytes none ≡ t → bytes ≡ orElse (unlessNone bytes) 0
+unfolding orElse
+number-of bytes true e = rw e (eqb-true bytes none e)
+number-of bytes false e = rw e
+
+pub chosen-size : (format : ℕ) (asked : TextureAspect) → bytesOf (rowOf format) (chosenAspects format asked) ≡ orElse (blockCopySize format asked) 0
+unfolding blockCopySize
+chosen-size format asked = number-of (bytesOf (rowOf format) (chosenAspects format asked)) _ refl
+
+-- where it is colour
 pub color-size :
     (format : ℕ) (asked : TextureAspect) (aspects : ℕ)
     → aspects ≡ aspectsOf format
     → askedOf aspects asked ≡ 1
-    → unlessNone (rowOf format .color) ≡ blockCopySize format asked
-unfolding blockCopySize chosenAspects bytesOf stop-if
+    → rowOf format .color ≡ orElse (blockCopySize format asked) 0
+unfolding chosenAspects bytesOf stop-if
 color-size format asked aspects e h =
     let chosen : askedOf (aspectsOf format) asked ≡ 1 = ap (λ x. askedOf x asked) (sym e) ∙ h in
-    ap (λ x. unlessNone (bytesOf (rowOf format) x)) (sym chosen)
+    ap (bytesOf (rowOf format)) (sym chosen) ∙ chosen-size format asked

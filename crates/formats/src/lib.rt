@@ -1,8 +1,9 @@
 // The texture formats by their numbers: blocks, bytes, aspects, planes and srgb pairs.
 ghost use mathlib.Core.Path.{_≡_};
 ghost use mathlib.Core.Bool.{true};
+ghost use Rattle.measures.specs.Measure.{orElse};
 ghost use Rattle.formats.specs.Sheet.{color as colorRow, depthStencil, planar as planarRow, rowOf, isFormat, blockWidth, blockHeight, aspectsOf, isDepthStencil, isCombinedDepthStencil, removeSrgb, isMultiPlanar};
-ghost use Rattle.formats.specs.Aspects.{askedOf, chosenAspects, bytesOf, unlessNone, blockCopySize, planeFormat, aspectSpecificFormat, subsamplingFactor};
+ghost use Rattle.formats.specs.Aspects.{askedOf, chosenAspects, bytesOf, blockCopySize, planeFormat, aspectSpecificFormat, subsamplingFactor};
 ghost use Rattle.formats.specs.Laws.{EveryFormat};
 use flags::FormatAspects;
 use measures::OptionU32;
@@ -240,15 +241,6 @@ fn bytes_of(format: u32, aspects: FormatAspects) -> u32
     NONE
 }
 
-fn unless_none(bytes: u32) -> OptionU32
-    ensures { λ r. ⌜ r ≡ unlessNone bytes ⌝ }
-{
-    if bytes == NONE {
-        return OptionU32::Absent;
-    }
-    OptionU32::Given(bytes)
-}
-
 fn is_color(aspects: FormatAspects, asked: TextureAspect) -> bool
     ensures { λ r. ⌜ (r ≡ true → askedOf (aspects .0) asked ≡ 1) ⌝ }
 {
@@ -262,20 +254,14 @@ fn is_color(aspects: FormatAspects, asked: TextureAspect) -> bool
     }
 }
 
-fn chosen_copy_size(format: u32, asked: TextureAspect) -> OptionU32
-    ensures { λ r. ⌜ r ≡ blockCopySize format asked ⌝ }
-{
-    unless_none(bytes_of(format, chosen_aspects(format, asked)))
-}
-
-// The bytes of a block of the one aspect that a copy chooses. Nearly every copy is of a colour format.
-pub fn block_copy_size(format: u32, asked: TextureAspect) -> OptionU32
-    ensures { λ r. ⌜ r ≡ blockCopySize format asked ⌝ }
+// The bytes of a block of the one aspect that a copy chooses, 0 where it has none. Nearly every copy is of a colour format.
+pub fn block_copy_size(format: u32, asked: TextureAspect) -> u32
+    ensures { λ r. ⌜ r ≡ orElse (blockCopySize format asked) 0 ⌝ }
 {
     if is_color(format_aspects(format), asked) {
-        return unless_none(color_bytes(format));
+        return color_bytes(format);
     }
-    chosen_copy_size(format, asked)
+    bytes_of(format, chosen_aspects(format, asked))
 }
 
 pub fn is_depth_stencil_format(format: u32) -> bool

@@ -252,7 +252,7 @@ fn block_bytes(format: u32, aspect: TextureAspect) -> u64
     ensures { λ r. ⌜ r ≡ blockBytes format aspect ⌝ }
     ensures few { λ r. ⌜ r ≤ maxBlockBytes ⌝ }
 {
-    measures::or_else(formats::block_copy_size(format, aspect), 0)
+    formats::block_copy_size(format, aspect) as u64
 }
 
 fn dense_of(format: u32, aspect: TextureAspect, size: Extent3d) -> Dense

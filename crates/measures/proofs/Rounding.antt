@@ -3,10 +3,19 @@
 use mathlib.Core.Path.{_≡_, sym, ap, _∙_}
 use Prim.Native.Nat.{ℕ, _+_, _-_, _*_, _/_, _%_, _≤_, _<_}
 use native.Mathlib.Omega.{arith}
-use native.Mathlib.Nat.{add-mul, div-add-mod', div-lt-iff-lt-mul, div-mul-le-self, lt-div-mul-add, mod-lt, mul-mod-left}
+use native.Mathlib.Nat.{add-mul, div-add-mod', div-lt-iff-lt-mul, div-mul-le-self, div-one, lt-div-mul-add, mod-lt, mul-mod-left, mul-one}
 use lib.Arith.{digits-div}
 use Rattle.measures.specs.Measure.{blocksOf, roundedUp}
 use Rattle.measures.specs.Laws.{BlockLaws, EveryBlockSize}
+
+-- blocks of one texel
+pub single-blocks : (n size : ℕ) → size ≡ 1 → n ≡ blocksOf n size
+unfolding blocksOf
+single-blocks n size e = rw (e, div-one) (omega arith)
+
+pub single-texels : (n size : ℕ) → size ≡ 1 → n ≡ roundedUp n size
+unfolding roundedUp
+single-texels n size e = single-blocks n size e ∙ rw (e, mul-one)
 
 module _ (size : ℕ) (pos : 0 < size) where
   -- the quotient, and one more where a rest is left

@@ -16,6 +16,10 @@ impl Texels {
         requires { ⌜ 0 < size ⌝ }
         ensures { λ r. ⌜ r .0 ≡ blocksOf (self .0) size ⌝ }
     {
+        // nearly every block is one texel, and a division takes long
+        if size == 1 {
+            return Blocks(self.0);
+        }
         let whole = self.0 / size;
         if self.0 % size == 0 {
             Blocks(whole)
@@ -29,6 +33,9 @@ impl Texels {
         requires { ⌜ (0 < size) × (self .0 + size ≤ 2 ^ 32) ⌝ }
         ensures { λ r. ⌜ r .0 ≡ roundedUp (self .0) size ⌝ }
     {
+        if size == 1 {
+            return self;
+        }
         let blocks = self.in_blocks(size);
         Texels(blocks.0 * size)
     }
@@ -78,6 +85,9 @@ pub fn is_multiple_of(n: u32, m: u32) -> bool
     requires { ⌜ 0 < m ⌝ }
     ensures { λ r. ⌜ r ≡ multiple n m ⌝ }
 {
+    if m == 1 {
+        return true;
+    }
     n % m == 0
 }
 

@@ -1,6 +1,6 @@
 -- The range of a copy within a texture.
 use Prim.Native.Nat.{ℕ, _+_, _-_, _%_, _^_}
-use mathlib.Core.Bool.{Bool, false, not, _&&_, _||_}
+use mathlib.Core.Bool.{Bool, true, false, not, _&&_, _||_}
 use lib.Dec.{eqb, leb, ltb}
 use Rattle.checks.specs.Checks.{stop-if, _$_}
 use Rattle.measures.specs.declared.Extent3d.{Extent3d}
@@ -113,3 +113,8 @@ rangeChecked view t side size =
     after (extentChecked view t side size) R.Refused $
     after (alignmentChecked view t size) R.Refused $
     R.GoOn (copyExtent t size) (arrayLayerCount t size)
+
+-- the range is accepted
+unfoldable pub goesOn : RangeChecked → Bool
+goesOn (R.GoOn extent layers) = true
+goesOn (R.Refused e) = false

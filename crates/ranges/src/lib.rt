@@ -3,7 +3,8 @@ ghost use mathlib.Core.Path.{_≡_};
 ghost use mathlib.Core.Bool.{true};
 ghost use Prim.Native.Nat.{_<_};
 ghost use Rattle.records.specs.Bounds.{textureInBounds};
-ghost use Rattle.ranges.specs.Range.{endOf, isPartial, overruns, partialTransfer, textureOverrun, dimensionChecked, sidesChecked, blocksChecked, requiresExactSize, subjectOf, depthOf, layersOf, copyExtent, arrayLayerCount, extentChecked, alignmentChecked, rangeChecked};
+ghost use Rattle.ranges.specs.Range.{endOf, isPartial, overruns, partialTransfer, textureOverrun, dimensionChecked, sidesChecked, blocksChecked, requiresExactSize, subjectOf, depthOf, layersOf, copyExtent, arrayLayerCount, extentChecked, alignmentChecked, rangeChecked, goesOn};
+ghost use Rattle.ranges.specs.Inside.{runFits, sidesFit, blocksFit, extentFits, alignmentFits};
 ghost use Rattle.ranges.specs.Laws.{EveryRange};
 use levels::TextureDimension;
 use measures::Extent3d;
@@ -48,11 +49,11 @@ fn is_partial(exact: bool, start: u32, size: u32, limit: u32) -> bool
     checks::both(exact, checks::either(start != 0, size != limit))
 }
 
-// Whether a run leaves its limit. No sum is made that could wrap.
+// Whether a run leaves its limit. The sum is made in 64 bits, which hold it.
 fn is_overrun(start: u32, size: u32, limit: u32) -> bool
     ensures { λ r. ⌜ r ≡ overruns start size limit ⌝ }
 {
-    start > limit || limit - start < size
+    (limit as u64) < (start as u64) + (size as u64)
 }
 
 fn partial_transfer(
@@ -212,7 +213,7 @@ fn layers_of(dimension: TextureDimension, depth: u32) -> u32
     }
 }
 
-fn copy_extent(t: Texture, size: Extent3d) -> CopyExtent
+pub fn copy_extent(t: Texture, size: Extent3d) -> CopyExtent
     ensures { λ r. ⌜ r ≡ copyExtent t size ⌝ }
 {
     let dimension = levels::texture_dimension(t.dimension);
@@ -223,7 +224,7 @@ fn copy_extent(t: Texture, size: Extent3d) -> CopyExtent
     }
 }
 
-fn array_layer_count(t: Texture, size: Extent3d) -> u32
+pub fn array_layer_count(t: Texture, size: Extent3d) -> u32
     ensures { λ r. ⌜ r ≡ arrayLayerCount t size ⌝ }
 {
     let dimension = levels::texture_dimension(t.dimension);
@@ -271,6 +272,80 @@ pub fn validate_texture_copy_range(
         return RangeChecked::Refused(why);
     }
     RangeChecked::GoOn(copy_extent(t, copy_size), array_layer_count(t, copy_size))
+}
+
+// Whether a run lies inside its limit, and is all of it where it must be.
+fn run_fits(exact: bool, start: u32, size: u32, limit: u32) -> bool
+    ensures { λ r. ⌜ r ≡ runFits exact start size limit ⌝ }
+{
+    if exact {
+        return checks::both(start == 0, size == limit);
+    }
+    start as u64 + size as u64 <= limit as u64
+}
+
+fn sides_fit(exact: bool, o: Origin3d, size: Extent3d, extent: Extent3d) -> bool
+    ensures { λ r. ⌜ r ≡ sidesFit exact o size extent ⌝ }
+{
+    if !run_fits(exact, o.x, size.width, extent.width) {
+        return false;
+    }
+    if !run_fits(exact, o.y, size.height, extent.height) {
+        return false;
+    }
+    run_fits(
+        false,
+        o.z,
+        size.depth_or_array_layers,
+        extent.depth_or_array_layers,
+    )
+}
+
+fn blocks_fit(o: Origin3d, size: Extent3d, block_width: u32, block_height: u32) -> bool
+    requires { ⌜ (0 < «block_width») × (0 < «block_height») ⌝ }
+    ensures { λ r. ⌜ r ≡ blocksFit o size «block_width» «block_height» ⌝ }
+{
+    if !measures::is_multiple_of(o.x, block_width) {
+        return false;
+    }
+    if !measures::is_multiple_of(o.y, block_height) {
+        return false;
+    }
+    if !measures::is_multiple_of(size.width, block_width) {
+        return false;
+    }
+    measures::is_multiple_of(size.height, block_height)
+}
+
+fn extent_fits(view: TexelCopyTextureInfo, t: Texture, size: Extent3d) -> bool
+    requires { ⌜ textureInBounds t ≡ true ⌝ }
+    ensures { λ r. ⌜ r ≡ extentFits view t size ⌝ }
+{
+    let origin = view.origin;
+    let extent = records::physical_extent(t, view.mip_level);
+    sides_fit(requires_exact(t), origin, size, extent)
+}
+
+fn alignment_fits(view: TexelCopyTextureInfo, t: Texture, size: Extent3d) -> bool
+    ensures { λ r. ⌜ r ≡ alignmentFits view t size ⌝ }
+{
+    let origin = view.origin;
+    let block = formats::block_dimensions(t.format);
+    blocks_fit(origin, size, block.width, block.height)
+}
+
+// Whether `validate_texture_copy_range` goes on, for callers that make the refusal only where it is needed.
+pub fn is_in_range(view: TexelCopyTextureInfo, t: Texture, size: Extent3d) -> bool
+    requires { ⌜ textureInBounds t ≡ true ⌝ }
+    ensures { λ r. ⌜ ((side : CopySide) → r ≡ goesOn (rangeChecked view t side size)) ⌝ }
+{
+    if t.mip_level_count <= view.mip_level {
+        return false;
+    }
+    if !extent_fits(view, t, size) {
+        return false;
+    }
+    alignment_fits(view, t, size)
 }
 
 // Asks the check for the laws of an accepted range; nothing runs here.

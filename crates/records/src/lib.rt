@@ -2,6 +2,7 @@
 ghost use mathlib.Core.Path.{_≡_};
 ghost use mathlib.Core.Bool.{true};
 ghost use Prim.Native.Nat.{max};
+ghost use Rattle.levels.specs.Level.{dimensionOf};
 ghost use Rattle.records.specs.Bounds.{within, bufferInBounds, sizeInBounds, mipSide, levelsInBounds, mayBeMultisampled, fourSamples, samplesInBounds, dimensionSuits, sidesWhole, evenSides, planesSuit, fieldsInBounds, formatSuits, textureInBounds, bufferChecked, textureChecked};
 ghost use Rattle.records.specs.Extents.{logicalExtent, physicalExtent};
 ghost use Rattle.records.specs.Laws.{RecordLaws};
@@ -124,19 +125,39 @@ fn levels_in_bounds(dimension: TextureDimension, e: Extent3d, levels: u32) -> bo
     levels::may_have_levels(mip_side(dimension, e), levels)
 }
 
+fn has_size_in_bounds(t: Texture) -> bool
+    ensures { λ r. ⌜ r ≡ sizeInBounds (dimensionOf (t .dimension)) (t .size) ⌝ }
+{
+    let size = t.size;
+    size_in_bounds(levels::texture_dimension(t.dimension), size)
+}
+
+fn has_levels_in_bounds(t: Texture) -> bool
+    ensures { λ r. ⌜ r ≡ levelsInBounds (dimensionOf (t .dimension)) (t .size) (t .«mip_level_count») ⌝ }
+{
+    let size = t.size;
+    let dimension = levels::texture_dimension(t.dimension);
+    levels_in_bounds(dimension, size, t.mip_level_count)
+}
+
+// Nearly every record is within its bounds: a branch for each field takes less than joining the answers.
 fn fields_in_bounds(t: Texture) -> bool
     ensures { λ r. ⌜ r ≡ fieldsInBounds t ⌝ }
 {
-    let size = t.size;
     let usage = t.usage;
-    let dimension = levels::texture_dimension(t.dimension);
-    checks::all_five(
-        formats::is_format(t.format),
-        is_within(1, t.dimension, 3),
-        size_in_bounds(dimension, size),
-        levels_in_bounds(dimension, size, t.mip_level_count),
-        usage.0 <= MAX_TEXTURE_USAGE,
-    )
+    if !formats::is_format(t.format) {
+        return false;
+    }
+    if !is_within(1, t.dimension, 3) {
+        return false;
+    }
+    if !has_size_in_bounds(t) {
+        return false;
+    }
+    if !has_levels_in_bounds(t) {
+        return false;
+    }
+    usage.0 <= MAX_TEXTURE_USAGE
 }
 
 fn may_be_multisampled(format: u32) -> bool
@@ -208,17 +229,25 @@ fn format_suits(t: Texture) -> bool
     ensures { λ r. ⌜ r ≡ formatSuits t ⌝ }
 {
     let size = t.size;
-    checks::all_three(
-        dimension_suits(t.format, t.dimension),
-        sides_whole(t.format, size),
-        planes_suit(t),
-    )
+    if !dimension_suits(t.format, t.dimension) {
+        return false;
+    }
+    if !sides_whole(t.format, size) {
+        return false;
+    }
+    planes_suit(t)
 }
 
-fn texture_in_bounds(t: Texture) -> bool
+pub fn texture_in_bounds(t: Texture) -> bool
     ensures { λ r. ⌜ r ≡ textureInBounds t ⌝ }
 {
-    checks::all_three(fields_in_bounds(t), samples_in_bounds(t), format_suits(t))
+    if !fields_in_bounds(t) {
+        return false;
+    }
+    if !samples_in_bounds(t) {
+        return false;
+    }
+    format_suits(t)
 }
 
 // 3 where a buffer's record is out of its bounds.

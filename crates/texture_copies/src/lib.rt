@@ -40,13 +40,17 @@ fn is_this(value: OptionU32, n: u32) -> bool
     }
 }
 
-fn is_plane_split(src: TextureSide, dst: TextureSide) -> bool
+pub fn is_plane_split(src: TextureSide, dst: TextureSide) -> bool
     ensures { λ r. ⌜ r ≡ isPlaneSplit src dst ⌝ }
 {
     let src_texture = src.texture;
     let dst_texture = dst.texture;
     let view = src.view;
     let aspect = view.aspect;
+    // the format of a plane is not that of its texture
+    if src_texture.format == dst_texture.format {
+        return false;
+    }
     is_this(
         formats::aspect_specific_format(formats::remove_srgb_suffix(src_texture.format), aspect),
         formats::remove_srgb_suffix(dst_texture.format),
@@ -58,11 +62,14 @@ fn formats_differ(src: TextureSide, dst: TextureSide) -> bool
 {
     let src_texture = src.texture;
     let dst_texture = dst.texture;
+    if src_texture.format == dst_texture.format {
+        return false;
+    }
     formats::remove_srgb_suffix(src_texture.format)
         != formats::remove_srgb_suffix(dst_texture.format)
 }
 
-fn is_incompatible(split: bool, src: TextureSide, dst: TextureSide) -> bool
+pub fn is_incompatible(split: bool, src: TextureSide, dst: TextureSide) -> bool
     ensures { λ r. ⌜ r ≡ (formatsDiffer src dst && not split) ⌝ }
 {
     checks::both(formats_differ(src, dst), !split)
@@ -282,7 +289,7 @@ fn range_side(side: TextureSide, of: CopySide, size: Extent3d) -> RangeChecked
     ranges::validate_texture_copy_range(view, texture, of, size)
 }
 
-fn place_copy(
+pub fn place_copy(
     same: bool,
     split: bool,
     src: TextureSide,

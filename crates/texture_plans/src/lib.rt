@@ -43,16 +43,16 @@ pub struct TextureCopy {
     pub size: CopyExtent,
 }
 
-// Where the next region starts on both sides, its size, the parts of a layer and the next of them, how many regions are left, and the
-// ranges.
+// The ranges, where the next region starts on both sides, its size, the next part of the layer, how many regions are left, and the parts
+// of a layer. The ranges come first as in a plan of a copy with a buffer.
 pub struct TexturePlan {
+    pub ranges: TextureRanges,
     pub src: TextureCopyBase,
     pub dst: TextureCopyBase,
     pub size: CopyExtent,
-    pub parts: CopyParts,
     pub part: u32,
     pub left: u32,
-    pub ranges: TextureRanges,
+    pub parts: CopyParts,
 }
 
 pub enum NextTextureCopy {

@@ -89,9 +89,10 @@ fn copy_races(sets: &[[Inputs; 2]; 4]) -> Vec<Race<'_>> {
 /// The planner over the Rust; both must read the same numbers.
 fn copy_race(name: String, about: String, inputs: &Inputs) -> Race<'_> {
     let calls: Vec<Call> = inputs.calls();
-    let again = calls.clone();
+    let [again, unread] = [calls.clone(), calls.clone()];
     let count = calls.len();
     let (mut recorder, mut rooms) = (Recorder::new(), Rooms::default());
+    let mut unread_rooms = Rooms::default();
     let expected = passes::rust_pass(&inputs.prepared, &mut recorder);
     assert_eq!(passes::planner_pass(&calls, &mut rooms), expected, "{name}");
     assert_eq!(passes::returning_pass(&calls), expected, "{name}");
@@ -107,6 +108,9 @@ fn copy_race(name: String, about: String, inputs: &Inputs) -> Race<'_> {
             }),
             Side::new("planner, plan returned", count, move || {
                 passes::returning_pass(&again)
+            }),
+            Side::new("planner, plan not read", count, move || {
+                passes::planning_pass(&unread, &mut unread_rooms)
             }),
         ],
     }

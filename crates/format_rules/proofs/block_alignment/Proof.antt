@@ -1,16 +1,22 @@
 -- `block_alignment` meets its contract.
 -- Assumes nothing.
-use mathlib.Core.Path.{_≡_}
 use native.Mathlib.Omega.{arith}
+use native.Mathlib.Nat.{pos-of-ne-zero}
 use borrow.Author.Needs.{needs}
-use Rattle.measures.specs.Measure.{orElse}
-use Rattle.formats.specs.Aspects.{blockCopySize}
-use Rattle.format_rules.proofs.Alignment.{some}
+use Rattle.format_rules.proofs.Alignment.{alignment-of}
 use Rattle.format_rules.proofs.block_alignment.Statement.{statement}
 use Rattle.format_rules.proofs.block_alignment.Tie as tie
 
-returns : tie.Need-returns
-returns c = let a = c .before .before .args in let e : c .or-else .result ≡ orElse (blockCopySize (a .format) (a .aspect)) 1 = cc in (e, omega (arith, e, some (a .format) (a .aspect)))
+none : tie.Need-returns
+none c =
+    let s = c .before in
+    (alignment-of (s .before .args .format) (s .before .args .aspect) _ (s .block-copy-size .ensures) .0 (c .if1 .taken), omega arith)
+
+some-bytes : tie.Need-returns-2
+some-bytes c =
+    let s = c .before in
+    let some = c .if1 .left in
+    (alignment-of (s .before .args .format) (s .before .args .aspect) _ (s .block-copy-size .ensures) .1 some, pos-of-ne-zero some)
 
 pub block-alignment-spec : {M : Type 1} → statement M
-block-alignment-spec = tie.close (tie.spec (λ c κs. search needs) (λ c κs. search needs) returns)
+block-alignment-spec = tie.close (tie.spec (search needs) none (search needs) some-bytes)

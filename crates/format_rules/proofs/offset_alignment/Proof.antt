@@ -12,8 +12,10 @@ returns c = (rw (sym (c .before .is-depth-stencil-format .ensures) ∙ c .if1 .t
 
 returns-2 : tie.Need-returns-2
 unfolding offsetAlignment
-returns-2 c = (rw (sym (c .before .before .is-depth-stencil-format .ensures) ∙ c .before .if1 .left) (c .block-alignment .ensures .0), search needs)
+returns-2 c =
+    let d = c .before in
+    let b = d .before .block-alignment .ensures in
+    (rw (sym (d .is-depth-stencil-format .ensures) ∙ c .if1 .left) (b .0), b .1)
 
 pub offset-alignment-spec : {M : Type 1} → statement M
-unfolding offsetAlignment
-offset-alignment-spec = tie.close (tie.spec (λ c κs. search needs) returns (λ c κs. search needs) returns-2)
+offset-alignment-spec = tie.close (tie.spec (search needs) (search needs) returns returns-2)

@@ -10,8 +10,10 @@ use Rattle.linear.proofs.block_bytes.Tie as tie
 
 returns : tie.Need-returns
 unfolding blockBytes
-returns c = let a = c .before .before .args in let e : c .or-else .result ≡ blockBytes (a .format) (a .aspect) = cc in (e, omega (arith, e, bytes-few (a .format) (a .aspect)))
+returns c =
+    let a = c .before .args in
+    let e : c .block-copy-size .result ≡ blockBytes (a .format) (a .aspect) = c .block-copy-size .ensures in
+    (e, omega (arith, e, bytes-few (a .format) (a .aspect)))
 
 pub block-bytes-spec : {M : Type 1} → statement M
-unfolding blockBytes
-block-bytes-spec = tie.close (tie.spec (λ c κs. search needs) (λ c κs. search needs) returns)
+block-bytes-spec = tie.close (tie.spec (search needs) (search needs) returns)

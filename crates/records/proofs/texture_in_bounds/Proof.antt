@@ -1,12 +1,11 @@
 -- `texture_in_bounds` meets its contract.
 -- Assumes nothing.
 use borrow.Author.Needs.{needs}
+use Rattle.checks.proofs.Rules.{and-lines}
 use Rattle.records.specs.Bounds.{textureInBounds}
 use Rattle.records.proofs.texture_in_bounds.Statement.{statement}
 use Rattle.records.proofs.texture_in_bounds.Tie as tie
 
 pub texture-in-bounds-spec : {M : Type 1} → statement M
 unfolding textureInBounds
-texture-in-bounds-spec =
-    tie.close
-    (tie.spec (λ c κs. search needs) (λ c κs. search needs) (λ c κs. search needs) (λ c κs. search needs) (λ c. cc))
+texture-in-bounds-spec = tie.close (tie.spec (λ c κs. search needs) (λ c. search and-lines depth 10) (λ c κs. search needs) (λ c. search and-lines depth 10) (λ c κs. search needs) (λ c. search and-lines depth 10))

@@ -1,0 +1,56 @@
+-- What a plan's words give is what the plan gives.
+-- Assumes nothing.
+use mathlib.Core.Path.{_≡_, refl}
+use mathlib.Core.Bool.{Bool, true, false}
+use Prim.Native.Nat.{ℕ, _^_, _<_}
+use native.Mathlib.Omega.{arith}
+use native.Mathlib.Nat.{mod-eq-of-lt, div-one}
+use borrow.Author.Tests.{ne-eqb}
+use lib.Dec.{eqb}
+use lib.ListN.{drop}
+use Rattle.checks.specs.Checks.{stop-if}
+use Rattle.formats.specs.Sheet.{DEPTH, STENCIL, PLANE-0}
+use Rattle.rows.specs.Rows.{bufferCopyNumbers, bufferTextureCopyNumbers, textureCopyNumbers}
+use Rattle.copies.specs.Copies.{nextLayer}
+use Rattle.buffer_copies.specs.BufferCopies as K
+use Rattle.buffer_texture_plans.specs.Asking as L
+use Rattle.texture_plans.specs.declared.CopyParts.{CopyParts}
+use Rattle.texture_plans.specs.declared.CopyParts.the-variants.{Whole, DepthStencil, Planes}
+use Rattle.texture_plans.specs.declared.TexturePlan.{TexturePlan}
+use Rattle.texture_plans.specs.Asking as X
+use Rattle.plans.specs.declared.Plan.{Plan}
+use Rattle.plans.specs.declared.Plan.the-variants.{Buffers, BufferTexture, Textures}
+use Rattle.plans.specs.Regions.{leftOf, bufferNumbers, bufferTextureNumbers, textureNumbers, numbersOf, behindOf}
+use Rattle.words.specs.Words.{partsNumber, bufferWords, bufferTextureWords, textureWords}
+use Rattle.c_regions.specs.Regions.{wordsOf, leftIn, bufferRegion, bufferBehind, bufferTextureRegion, bufferTextureBehind, withAspects, halved, depthOrStencil, textureRegion, partFollows, partOn, textureBehind}
+use Rattle.c_regions.specs.Laws.{regionFrom, wordsBehind, NextAgrees, EveryStep}
+
+-- a part as large as the layer differs from it in its aspects alone
+full : (p : TexturePlan) (aspects : ℕ) → withAspects aspects aspects (drop 3 (textureWords p)) ≡ textureCopyNumbers (X.regionAs p aspects 1)
+unfolding withAspects textureWords textureCopyNumbers X.regionAs X.baseAs X.sizeBy
+full p aspects =
+    cc (div-one (p .src .origin .x), div-one (p .src .origin .y), div-one (p .dst .origin .x), div-one (p .dst .origin .y), div-one (p .size .width), div-one (p .size .height))
+
+module _ (p : TexturePlan) (n : p .left < 2 ^ 32) (some-left : eqb (p .left) 0 ≡ false) where
+  by-parts : (parts : CopyParts) (first : Bool) → p .parts ≡ parts → eqb (p .part) 0 ≡ first → NextAgrees (Textures p)
+  unfolding regionFrom numbersOf wordsBehind wordsOf behindOf X.nextOf stop-if textureNumbers textureCopyNumbers X.regionOf X.regionAs X.baseAs X.sizeBy X.advanced X.otherPart X.otherLayer nextLayer textureWords partsNumber withAspects halved depthOrStencil textureRegion partFollows partOn textureBehind
+  by-parts Whole first e f = rw (e, some-left, mod-eq-of-lt n) (refl, refl)
+  by-parts DepthStencil true e f = rw (e, f, some-left, mod-eq-of-lt n) (full p DEPTH, refl)
+  by-parts DepthStencil false e f = rw (e, f, some-left, mod-eq-of-lt n) (full p STENCIL, refl)
+  by-parts Planes true e f = rw (e, f, some-left, mod-eq-of-lt n) (full p PLANE-0, refl)
+  by-parts Planes false e f = rw (e, f, some-left, mod-eq-of-lt n) (refl, refl)
+
+agrees : (p : Plan) → leftOf p < 2 ^ 32 → eqb (leftOf p) 0 ≡ false → NextAgrees p
+unfolding leftOf regionFrom numbersOf wordsBehind wordsOf behindOf K.nextOf L.nextOf stop-if bufferNumbers bufferCopyNumbers bufferTextureNumbers bufferTextureCopyNumbers K.advanced L.advanced L.moved nextLayer bufferWords bufferTextureWords bufferRegion bufferBehind bufferTextureRegion bufferTextureBehind
+agrees (Buffers p) n some-left = rw (some-left, mod-eq-of-lt n) (refl, refl)
+agrees (BufferTexture p) n some-left = rw (some-left, mod-eq-of-lt n) (refl, refl)
+agrees (Textures p) n some-left = by-parts p n some-left (p .parts) (eqb (p .part) 0) refl refl
+
+left-agrees : (p : Plan) → leftOf p < 2 ^ 32 → leftIn (wordsOf p) ≡ leftOf p
+unfolding leftOf wordsOf bufferWords bufferTextureWords textureWords
+left-agrees (Buffers p) n = mod-eq-of-lt n
+left-agrees (BufferTexture p) n = mod-eq-of-lt n
+left-agrees (Textures p) n = mod-eq-of-lt n
+
+pub every-step : EveryStep
+every-step p n = (left-agrees p n, λ h. agrees p n (ne-eqb (leftOf p) 0 (λ z. omega arith)))

@@ -1,0 +1,13 @@
+-- `blocks_fit` meets its contract.
+-- Assumes nothing.
+use borrow.Author.Needs.{needs}
+use Rattle.checks.proofs.Rules.{and-lines}
+use Rattle.ranges.specs.Inside.{blocksFit}
+use Rattle.ranges.proofs.blocks_fit.Statement.{statement}
+use Rattle.ranges.proofs.blocks_fit.Tie as tie
+
+pub blocks-fit-spec : {M : Type 1} → statement M
+unfolding blocksFit
+blocks-fit-spec =
+    tie.close
+    (tie.spec (λ c κs. search needs) (λ c. search and-lines depth 10) (λ c κs. search needs) (λ c. search and-lines depth 10) (λ c κs. search needs) (λ c. search and-lines depth 10) (λ c κs. search needs) (λ c. search and-lines depth 10))
