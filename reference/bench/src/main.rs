@@ -92,7 +92,7 @@ fn copy_race(name: String, about: String, inputs: &Inputs) -> Race<'_> {
     let [again, unread] = [calls.clone(), calls.clone()];
     let count = calls.len();
     let (mut recorder, mut rooms) = (Recorder::new(), Rooms::default());
-    let mut unread_rooms = Rooms::default();
+    let (mut unread_recorder, mut unread_rooms) = (Recorder::new(), Rooms::default());
     let expected = passes::rust_pass(&inputs.prepared, &mut recorder);
     assert_eq!(passes::planner_pass(&calls, &mut rooms), expected, "{name}");
     assert_eq!(passes::returning_pass(&calls), expected, "{name}");
@@ -109,7 +109,10 @@ fn copy_race(name: String, about: String, inputs: &Inputs) -> Race<'_> {
             Side::new("planner, plan returned", count, move || {
                 passes::returning_pass(&again)
             }),
-            Side::new("planner, plan not read", count, move || {
+            Side::new("Rust, not read", count, move || {
+                passes::recording_pass(&inputs.prepared, &mut unread_recorder)
+            }),
+            Side::new("planner, not read", count, move || {
                 passes::planning_pass(&unread, &mut unread_rooms)
             }),
         ],

@@ -38,6 +38,15 @@ pub fn rust_pass(copies: &[Prepared], recorder: &mut Recorder) -> u64 {
     )
 }
 
+/// Runs each copy through the Rust, and leaves what it recorded unread.
+pub fn recording_pass(copies: &[Prepared], recorder: &mut Recorder) -> u64 {
+    sum_all(copies.iter().map(|copy| {
+        let recorded = black_box(copy).record(recorder);
+        black_box(&recorded);
+        u64::from(recorded.is_ok())
+    }))
+}
+
 /// All ranges and regions of the Rust's last copy.
 #[inline]
 fn recorded(recorder: &Recorder) -> u64 {
