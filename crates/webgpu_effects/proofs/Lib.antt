@@ -1,0 +1,5 @@
+pub mod Formats
+pub mod Figures
+pub mod Sides
+pub mod Numbered
+pub mod BufferEffects

@@ -1,0 +1,4 @@
+pub mod Blocks
+pub mod Standard
+pub mod Regions
+pub mod Effects
