@@ -8,9 +8,8 @@ use Prim.Native.Nat.{ℕ, _+_, _-_, _*_, _/_, _%_, _^_, _≤_, _<_}
 use native.Mathlib.Omega.{arith}
 use native.Mathlib.Nat.{mul-le-mul-right}
 use lib.Dec.{eqb, ltb}
-use borrow.Author.Tests.{ne-eqb, eqb-false, lt-ltb}
+use borrow.Author.Tests.{ne-eqb, lt-ltb}
 use Rattle.checks.specs.Checks.{pick}
-use Rattle.checks.proofs.Rules.{neither}
 use Rattle.measures.specs.declared.OptionU32.{OptionU32}
 use Rattle.measures.specs.declared.OptionU32.the-variants.{Given, Absent}
 use Rattle.measures.specs.Measure.{blocksOf, orElse}
@@ -44,7 +43,7 @@ use Rattle.webgpu_effects.specs.Standard.{layerOf, sliceOf, blockAt, Sta
 use Rattle.webgpu_effects.specs.Regions.{orDense, blockFrom, Puts}
 use Rattle.webgpu_effects.specs.Effects.{BufferEffects}
 use Rattle.webgpu_effects.proofs.Formats.{same-blocks, same-dimension, named-has, has-named}
-use Rattle.webgpu_effects.proofs.Figures.{limit, in-blocks, in-texels, some-blocks, strides, Image, image-of, region-of}
+use Rattle.webgpu_effects.proofs.Figures.{no-zero, depth-some, limit, in-blocks, in-texels, some-blocks, same-block, strides, Image, image-of, layerFor, sliceFor, region-of}
 use Rattle.webgpu_effects.proofs.Sides.{Side, side-of}
 use Rattle.webgpu_effects.proofs.Numbered.{numbered, Unwrapped, number-of, of-number}
 
@@ -66,10 +65,6 @@ is-given Absent needed e f = let z : _≡_ {A = ℕ} 0 1 = cc in absurd (omega a
 or-right : (s t : Bool) → t ≡ true → (s || t) ≡ true
 or-right true t e = refl
 or-right false t e = e
-
-same-block : {level l l′ s s′ x x′ y y′ : ℕ} {aspect : Aspect} → l ≡ l′ → s ≡ s′ → x ≡ x′ → y ≡ y′
-    → _≡_ {A = TexelBlock} (record { level = level; aspect = aspect; layer = l; slice = s; x = x; y = y }) (record { level = level; aspect = aspect; layer = l′; slice = s′; x = x′; y = y′ })
-same-block e f g h = cc
 
 module _ (c : Copy) (p : BufferTexturePlan) (k : Checks (c .reads) c p) (known : Known (c .texture .format)) where
   abbrev plan : BufferTexturePlan
@@ -106,23 +101,17 @@ module _ (c : Copy) (p : BufferTexturePlan) (k : Checks (c .reads) c p) (known :
   unfolding planOf
   none-left e = rw e
 
-  depth-some : isEmpty (c .size) ≡ false → 0 < d
-  unfolding isEmpty
-  depth-some e = let n = eqb-false d 0 (neither (eqb (c .size .height) 0) _ (neither (eqb (c .size .width) 0) _ e .1) .1) in omega arith
-
   some-left : (m : ℕ) → m < plan .left → (0 < d) × (m < R.layersOf v d)
+  unfolding isEmpty
   some-left m h = go (isEmpty (c .size)) refl
     where
       go : (t : Bool) → isEmpty (c .size) ≡ t → (0 < d) × (m < R.layersOf v d)
       go true e = absurd (omega (arith, h, none-left e))
-      go false e = (depth-some e, rw (left-is e) at h)
-
-  not-empty : 0 < c .size .width → 0 < c .size .height → 0 < d → isEmpty (c .size) ≡ false
-  unfolding isEmpty
-  not-empty pw ph pd = rw (ne-eqb (c .size .width) 0 (λ e. omega arith), ne-eqb (c .size .height) 0 (λ e. omega arith), ne-eqb d 0 (λ e. omega arith))
+      go false e = (depth-some (c .size .width) (c .size .height) d e, rw (left-is e) at h)
 
   left-of : (m : ℕ) → 0 < c .size .width → 0 < c .size .height → 0 < d → m < R.layersOf v d → m < plan .left
-  left-of m pw ph pd h = rw (left-is (not-empty pw ph pd)) h
+  unfolding isEmpty
+  left-of m pw ph pd h = rw (left-is (no-zero _ _ _ pw ph pd)) h
 
   stride-is : plan .stride ≡ imageStride (c .layout) dense
   unfolding planOf dataOf
@@ -202,26 +191,26 @@ module _ (c : Copy) (p : BufferTexturePlan) (k : Checks (c .reads) c p) (known :
   backward : (b : TexelBlock) (byte : ℕ) → Stands c b byte → (m : ℕ) × (m < plan .left) × Puts f (numbered plan m) b byte
   unfolding planOf firstRegion baseOf copyExtent
   backward b byte q =
-      let r = region-of v z d (q .k) deep (q .image) in
-      let im = r .2 in
+      let m = layerFor v (q .k) in
+      let im = region-of v z d (q .k) deep (q .image) in
       let x = in-texels (f .blockWidth) (c .view .origin .x) (q .i) (c .size .width) (side .bw-pos) (side .x-whole) (side .w-whole) (q .column) in
       let y = in-texels (f .blockHeight) (c .view .origin .y) (q .j) (c .size .height) (side .bh-pos) (side .y-whole) (side .h-whole) (q .row) in
       let named = named-has (c .texture .format) (c .view .aspect) known (q .part) (q .asked) in (
-        r .0,
-        left-of (r .0) (some-blocks _ _ _ (q .column)) (some-blocks _ _ _ (q .row)) (omega (arith, q .image)) (im .there),
+        m,
+        left-of m (some-blocks _ _ _ (q .column)) (some-blocks _ _ _ (q .row)) (omega (arith, q .image)) (im .there),
         record {
           part = q .part;
           known = named .0;
           bits = named .1;
           dx = q .i * f .blockWidth;
           dy = q .j * f .blockHeight;
-          dz = r .1;
+          dz = sliceFor v (q .k);
           x = x .0;
           y = y .0;
           z = im .deep;
           block = q .block ∙ rw (← same-dimension (c .texture .dimension)) (same-block (sym (im .layer)) (sym (im .slice)) refl refl);
           grid = (ap (λ (t : TexelBlock). t .x % f .blockWidth) (q .block) ∙ x .1, ap (λ (t : TexelBlock). t .y % f .blockHeight) (q .block) ∙ y .1);
-          at = q .at ∙ rw (x .2, y .2) (sym (at-byte (r .0) (r .1) (q .k) (q .i) (q .j) (q .part) (im .sum) (q .image) (q .row)));
+          at = q .at ∙ rw (x .2, y .2) (sym (at-byte m (sliceFor v (q .k)) (q .k) (q .i) (q .j) (q .part) (im .sum) (q .image) (q .row)));
         },
       )
 

@@ -1,9 +1,13 @@
 -- Distances in blocks and in texels, strides, and images.
 -- Assumes nothing.
 use mathlib.Core.Path.{_≡_, refl, sym, ap, _∙_}
+use mathlib.Core.Bool.{Bool, false, _||_}
 use Prim.Native.Nat.{ℕ, zero, suc, _+_, _*_, _/_, _%_, _≤_, _<_}
 use native.Mathlib.Omega.{arith}
 use native.Mathlib.Nat.{zero-add, zero-mul, mul-assoc, add-mul, mod-add-mod, div-add-mod', mul-div-cancel, add-mul-mod-self-right, mul-lt-mul-of-pos-right, lt-of-mul-lt-mul-right, pos-of-div-pos}
+use lib.Dec.{eqb}
+use borrow.Author.Tests.{ne-eqb, eqb-false}
+use Rattle.checks.proofs.Rules.{neither}
 use Rattle.measures.specs.declared.OptionU32.{OptionU32}
 use Rattle.measures.specs.declared.OptionU32.the-variants.{Given, Absent}
 use Rattle.measures.specs.Measure.{orElse}
@@ -13,6 +17,8 @@ use Rattle.records.specs.Limits.{maxSide3d}
 use Rattle.ranges.specs.Range as R
 use Rattle.selectors.specs.Selector as S
 use Rattle.webgpu.specs.WebGpu.{orZero, IsGiven}
+use Rattle.webgpu.specs.Formats.{Aspect}
+use Rattle.webgpu_effects.specs.Blocks.{TexelBlock}
 use Rattle.webgpu_effects.specs.Standard.{layerOf, sliceOf}
 use Rattle.webgpu_effects.specs.Regions.{orDense}
 
@@ -34,8 +40,30 @@ in-texels b o i w pos ho hw h =
     let l : i * b < w / b * b = mul-lt-mul-of-pos-right h pos in
     (rw (exact w b hw) at l, add-mul-mod-self-right o i b ∙ ho, mul-div-cancel i pos)
 
+pub quotient-some : (b w : ℕ) → 0 < w → w % b ≡ 0 → 0 < w / b
+quotient-some b w pos e = go (w / b) (exact w b e)
+  where
+    go : (n : ℕ) → n * b ≡ w → 0 < n
+    go zero f = absurd (omega (arith, f, zero-mul b))
+    go (suc n) f = omega arith
+
 pub some-blocks : (b i w : ℕ) → i < w / b → 0 < w
 some-blocks b i w h = pos-of-div-pos b (omega arith)
+
+pub same-block : {level l l′ s s′ x x′ y y′ : ℕ} {aspect : Aspect} → l ≡ l′ → s ≡ s′ → x ≡ x′ → y ≡ y′
+    → _≡_ {A = TexelBlock} (record { level = level; aspect = aspect; layer = l; slice = s; x = x; y = y }) (record { level = level; aspect = aspect; layer = l′; slice = s′; x = x′; y = y′ })
+same-block e f g h = cc
+
+-- ---- sizes of 0
+
+abbrev pub someZero : ℕ → ℕ → ℕ → Bool
+someZero w h d = eqb w 0 || (eqb h 0 || eqb d 0)
+
+pub no-zero : (w h d : ℕ) → 0 < w → 0 < h → 0 < d → someZero w h d ≡ false
+no-zero w h d pw ph pd = rw (ne-eqb w 0 (λ e. omega arith), ne-eqb h 0 (λ e. omega arith), ne-eqb d 0 (λ e. omega arith))
+
+pub depth-some : (w h d : ℕ) → someZero w h d ≡ false → 0 < d
+depth-some w h d e = let n = eqb-false d 0 (neither (eqb h 0) _ (neither (eqb w 0) _ e .1) .1) in omega arith
 
 not-above : (n : ℕ) → (0 < n → ⊥) → n ≡ 0
 not-above zero f = refl
@@ -82,7 +110,18 @@ image-of D1 z d m dz l pos h i = record { there = h; deep = i; below = omega ari
 image-of D2 z d m dz l pos h i = record { there = h; deep = i; below = omega arith; sum = refl; layer = omega arith; slice = omega arith }
 image-of D3 z d m dz l pos h i = record { there = h; deep = i; below = omega arith; sum = refl; layer = omega arith; slice = omega arith }
 
-pub region-of : (v : TextureDimension) (z d k : ℕ) → z + d ≤ limit v → k < d → (m : ℕ) × (dz : ℕ) × Image v z d m dz k
-region-of D1 z d k l h = (0, 0, record { there = omega arith; deep = omega arith; below = h; sum = omega arith; layer = omega arith; slice = omega arith })
-region-of D2 z d k l h = (k, 0, record { there = h; deep = omega arith; below = h; sum = omega arith; layer = omega arith; slice = omega arith })
-region-of D3 z d k l h = (0, k, record { there = omega arith; deep = h; below = h; sum = omega arith; layer = omega arith; slice = omega arith })
+-- the region of image k, and how deep in it
+abbrev pub layerFor : TextureDimension → ℕ → ℕ
+layerFor D1 k = 0
+layerFor D2 k = k
+layerFor D3 k = 0
+
+abbrev pub sliceFor : TextureDimension → ℕ → ℕ
+sliceFor D1 k = k
+sliceFor D2 k = 0
+sliceFor D3 k = k
+
+pub region-of : (v : TextureDimension) (z d k : ℕ) → z + d ≤ limit v → k < d → Image v z d (layerFor v k) (sliceFor v k) k
+region-of D1 z d k l h = record { there = omega arith; deep = omega arith; below = h; sum = omega arith; layer = omega arith; slice = omega arith }
+region-of D2 z d k l h = record { there = h; deep = omega arith; below = h; sum = omega arith; layer = omega arith; slice = omega arith }
+region-of D3 z d k l h = record { there = omega arith; deep = h; below = h; sum = omega arith; layer = omega arith; slice = omega arith }

@@ -2,15 +2,16 @@
 -- tests that are computed of every format of the standard.
 -- Assumes nothing.
 use mathlib.Core.Path.{_≡_, refl, sym, ap, _∙_}
-use mathlib.Core.Bool.{Bool, true, false, _&&_, cond}
+use mathlib.Core.Bool.{Bool, true, false, _&&_, _||_, cond}
 use mathlib.Core.List.{List, [], _∷_}
+use mathlib.Core.Logic.{_⊎_, inl, inr}
 use Prim.Native.Nat.{ℕ, _/_, _%_, _<_}
 use native.Mathlib.Omega.{arith}
 use lib.Dec.{eqb}
 use lib.ListN.{length}
 use borrow.Author.Tests.{eqb-true, eq-eqb}
 use Rattle.checks.specs.Checks.{stop-if}
-use Rattle.checks.proofs.Rules.{both-true}
+use Rattle.checks.proofs.Rules.{both-true, either}
 use Rattle.checks.proofs.Tables.{everyBelow, at-below}
 use Rattle.flags.specs.Flags.{holds, met}
 use Rattle.levels.specs.Level as L
@@ -19,9 +20,9 @@ use Rattle.levels.specs.declared.TextureDimension.the-variants.{D1, D2, D3}
 use Rattle.formats.specs.declared.TextureAspect.{TextureAspect}
 use Rattle.formats.specs.declared.TextureAspect.the-variants.{All, StencilOnly, DepthOnly, Plane0, Plane1, Plane2}
 use Rattle.formats.specs.Sheet as S
-use Rattle.formats.specs.Sheet.{rowOf, aspectsOf}
+use Rattle.formats.specs.Sheet.{rowOf, aspectsOf, removeSrgb}
 use Rattle.formats.specs.Aspects.{askedOf, chosenAspects}
-use Rattle.webgpu.specs.Formats.{Aspect, Color, Depth, Stencil, Part, Format, formats, Known, formatOf, names, namedOf, named, dimensionOf}
+use Rattle.webgpu.specs.Formats.{Aspect, Color, Depth, Stencil, Part, Format, formats, Known, formatOf, isColor, names, namedOf, named, dimensionOf}
 use Rattle.webgpu_effects.specs.Blocks.{In, first, later}
 use Rattle.webgpu_effects.specs.Regions.{bitOf}
 
@@ -132,6 +133,113 @@ unfolding sameBlocks
 same-blocks format known =
     let b = both-true _ _ (at-below sameBlocks 21 all-blocks format (known-below format known)) in
     (eqb-true _ _ (b .0), eqb-true _ _ (b .1))
+
+-- ---- formats that differ only in srgb
+
+sameSrgb : ℕ → Bool
+sameSrgb format =
+    eqb (aspectsOf (removeSrgb format)) (aspectsOf format)
+    && (eqb (formatOf (removeSrgb format) .blockWidth) (formatOf format .blockWidth) && eqb (formatOf (removeSrgb format) .blockHeight) (formatOf format .blockHeight))
+
+all-srgb : everyBelow sameSrgb 21 ≡ true
+unfolding sameSrgb removeSrgb aspectsOf rowOf S.formats formatOf formats
+all-srgb = refl
+
+pub record Alike (a b : ℕ) : Type 0 where
+  pub aspects : aspectsOf a ≡ aspectsOf b
+  pub width : formatOf a .blockWidth ≡ formatOf b .blockWidth
+  pub height : formatOf a .blockHeight ≡ formatOf b .blockHeight
+
+pub alike : (a b : ℕ) → Known a → Known b → removeSrgb a ≡ removeSrgb b → Alike a b
+unfolding sameSrgb
+alike a b ka kb e =
+    let p = both-true _ _ (at-below sameSrgb 21 all-srgb a (known-below a ka)) in
+    let q = both-true _ _ (at-below sameSrgb 21 all-srgb b (known-below b kb)) in
+    let p′ = both-true _ _ (p .1) in
+    let q′ = both-true _ _ (q .1) in
+    record {
+      aspects = sym (eqb-true _ _ (p .0)) ∙ ap aspectsOf e ∙ eqb-true _ _ (q .0);
+      width = sym (eqb-true _ _ (p′ .0)) ∙ ap (λ (n : ℕ). formatOf n .blockWidth) e ∙ eqb-true _ _ (q′ .0);
+      height = sym (eqb-true _ _ (p′ .1)) ∙ ap (λ (n : ℕ). formatOf n .blockHeight) e ∙ eqb-true _ _ (q′ .1);
+    }
+
+-- ---- an aspect whose bit a format has is one of its parts
+
+sameAspect : Aspect → Aspect → Bool
+sameAspect Color a = isColor a
+sameAspect Depth Color = false
+sameAspect Depth Depth = true
+sameAspect Depth Stencil = false
+sameAspect Stencil Color = false
+sameAspect Stencil Depth = false
+sameAspect Stencil Stencil = true
+
+is-aspect : (a b : Aspect) → sameAspect a b ≡ true → a ≡ b
+unfolding sameAspect
+is-aspect Color Color e = refl
+is-aspect Color Depth e = no (sym e)
+is-aspect Color Stencil e = no (sym e)
+is-aspect Depth Color e = no (sym e)
+is-aspect Depth Depth e = refl
+is-aspect Depth Stencil e = no (sym e)
+is-aspect Stencil Color e = no (sym e)
+is-aspect Stencil Depth e = no (sym e)
+is-aspect Stencil Stencil e = refl
+
+anyPart : Aspect → List Part → Bool
+anyPart a [] = false
+anyPart a (p ∷ ps) = sameAspect (p .aspect) a || anyPart a ps
+
+hasPart : Aspect → ℕ → Bool
+hasPart a format = same (hasB (aspectsOf format) a) (anyPart a (formatOf format .parts))
+
+all-parts : (a : Aspect) → everyBelow (hasPart a) 21 ≡ true
+unfolding hasPart anyPart sameAspect same hasB formatOf formats aspectsOf rowOf S.formats
+all-parts Color = refl
+all-parts Depth = refl
+all-parts Stencil = refl
+
+abbrev pub PartOf : Aspect → List Part → Type 0
+PartOf a ps = (p : Part) × In p ps × (p .aspect ≡ a)
+
+some-part : (a : Aspect) (ps : List Part) → anyPart a ps ≡ true → PartOf a ps
+unfolding anyPart
+some-part a [] e = no (sym e)
+some-part a (p ∷ ps) e = go (either _ _ e) (some-part a ps)
+  where
+    go : (sameAspect (p .aspect) a ≡ true) ⊎ (anyPart a ps ≡ true) → (anyPart a ps ≡ true → PartOf a ps) → PartOf a (p ∷ ps)
+    go (inl h) rest = (p, first refl, is-aspect _ _ h)
+    go (inr h) rest = let t = rest h in (t .0, later (t .1), t .2)
+
+pub part-of : (format : ℕ) (a : Aspect) → Known format → HasBit (aspectsOf format) a → PartOf a (formatOf format .parts)
+unfolding hasPart
+part-of format a known h =
+    let e = same-true _ _ (at-below (hasPart a) 21 (all-parts a) format (known-below format known)) in
+    some-part a (formatOf format .parts) (sym e ∙ bit-has _ a h)
+
+-- ---- where every aspect is chosen, one is named
+
+isSome : List Part → Bool
+isSome [] = false
+isSome (p ∷ ps) = true
+
+someParts : ℕ → Bool
+someParts format = isSome (formatOf format .parts)
+
+all-some : everyBelow someParts 21 ≡ true
+unfolding someParts isSome formatOf formats
+all-some = refl
+
+pub named-all : (format : ℕ) (asked : TextureAspect) → Known format → chosenAspects format asked ≡ aspectsOf format → (p : Part) × In p (named (formatOf format) asked)
+unfolding someParts isSome named chosenAspects askedOf
+named-all format asked known e = go (formatOf format .parts) refl (at-below someParts 21 all-some format (known-below format known))
+  where
+    go : (ps : List Part) → formatOf format .parts ≡ ps → isSome ps ≡ true → (p : Part) × In p (named (formatOf format) asked)
+    go [] q s = no (sym s)
+    go (p ∷ ps) q s =
+        let here : In p (formatOf format .parts) = rw q (first refl) in
+        let all : In p (named (formatOf format) All) = rw q (first refl) in
+        (p, has-named format asked known p here (rw e (named-has format All known p all .1)))
 
 -- ---- the dimension
 

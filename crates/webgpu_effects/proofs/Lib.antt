@@ -3,3 +3,6 @@ pub mod Figures
 pub mod Sides
 pub mod Numbered
 pub mod BufferEffects
+pub mod TextureParts
+pub mod TextureEffects
+pub mod MixedEffects

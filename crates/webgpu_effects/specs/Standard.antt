@@ -56,16 +56,23 @@ pub record Stands (c : B.Copy) (b : TexelBlock) (byte : ℕ) : Type 0 where
 
 -- ---- between textures
 
--- in image k, the destination's block `to` becomes the source's block `from`
-pub record CopiesImage (c : T.Copy) (k : ℕ) (from to : TexelBlock) : Type 0 where
+-- each block of an image, of each aspect that is named: the destination's in column i and row j becomes the source's there
+pub record ImageCopied (c : T.Copy) (source destination : Aspect → ℕ → ℕ → TexelBlock) (from to : TexelBlock) : Type 0 where
   pub part : Part
   pub asked : In part (named (formatOf (c .dst .texture .format)) (c .dst .view .aspect))
   pub i : ℕ
   pub j : ℕ
   pub column : i < c .size .width / formatOf (c .dst .texture .format) .blockWidth
   pub row : j < c .size .height / formatOf (c .dst .texture .format) .blockHeight
-  pub source : from ≡ blockAt (c .src .texture) (c .src .view) (part .aspect) i j k
-  pub destination : to ≡ blockAt (c .dst .texture) (c .dst .view) (part .aspect) i j k
+  pub taken : from ≡ source (part .aspect) i j
+  pub written : to ≡ destination (part .aspect) i j
 
+-- image k of the copy: of either texture, the image at its origin's z + k
+abbrev pub CopiesImage : T.Copy → ℕ → TexelBlock → TexelBlock → Type 0
+CopiesImage c k =
+    ImageCopied c (λ aspect i j. blockAt (c .src .texture) (c .src .view) aspect i j k)
+    (λ aspect i j. blockAt (c .dst .texture) (c .dst .view) aspect i j k)
+
+-- the destination's block `to` becomes the source's block `from`
 abbrev pub Copies : T.Copy → TexelBlock → TexelBlock → Type 0
 Copies c from to = (k : ℕ) × (k < c .size .«depth_or_array_layers») × CopiesImage c k from to
