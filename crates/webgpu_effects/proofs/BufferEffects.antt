@@ -37,11 +37,11 @@ use Rattle.webgpu.specs.Formats.{Aspect, Part, Format, Known, formatOf, dimensi
 use Rattle.webgpu.specs.WebGpu.{orZero, IsGiven}
 use Rattle.ownership.specs.Copy.{Copy}
 use Rattle.ownership.proofs.Accepted.{Checks, checks-of, planFor}
-use Rattle.ownership.proofs.Asks.{nextRegions, gives-only}
+use Rattle.ownership.proofs.Asks.{nextRegions, gives, gives-only}
 use Rattle.webgpu_effects.specs.Blocks.{TexelBlock, In}
 use Rattle.webgpu_effects.specs.Standard.{layerOf, sliceOf, blockAt, Stands}
 use Rattle.webgpu_effects.specs.Regions.{orDense, blockFrom, Puts}
-use Rattle.webgpu_effects.specs.Effects.{BufferEffects}
+use Rattle.webgpu_effects.specs.Effects.{BufferDoes, BufferEffects}
 use Rattle.webgpu_effects.proofs.Formats.{same-blocks, same-dimension, named-has, has-named}
 use Rattle.webgpu_effects.proofs.Figures.{no-zero, depth-some, limit, in-blocks, in-texels, some-blocks, same-block, strides, Image, image-of, layerFor, sliceFor, region-of}
 use Rattle.webgpu_effects.proofs.Sides.{Side, side-of}
@@ -222,7 +222,12 @@ module _ (c : Copy) (p : BufferTexturePlan) (k : Checks (c .reads) c p) (known :
         λ s. let t = backward b byte s in (numbered plan (t .0), of-number (plan .left) plan (t .0) unwrapped (t .1), t .2),
       )
 
+  all : BufferDoes c plan
+  all =
+      record {
+        ends = (nextRegions (plan .left) plan, gives (plan .left) plan refl);
+        does = λ rs g. effects rs (gives-only (plan .left) g refl);
+      }
+
 pub every-buffer-copy : BufferEffects
-every-buffer-copy c p e known rs g b byte =
-    let k = checks-of (c .reads) c p e in
-    effects c p k known rs (gives-only (planFor (c .reads) c .left) (rw (← k .plan) at g) refl) b byte
+every-buffer-copy c p e known = let k = checks-of (c .reads) c p e in rw (← k .plan) (all c p k known)

@@ -6,3 +6,4 @@ pub mod BufferEffects
 pub mod TextureParts
 pub mod TextureEffects
 pub mod MixedEffects
+pub mod MixedAccepted

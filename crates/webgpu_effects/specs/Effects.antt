@@ -27,11 +27,14 @@ use Rattle.webgpu_effects.specs.Regions.{Puts, Carries}
 abbrev pub PutBy : B.Copy → List BufferTextureCopy → TexelBlock → ℕ → Type 0
 PutBy c rs b byte = (r : BufferTextureCopy) × In r rs × Puts (formatOf (c .texture .format)) r b byte
 
+-- asking ends, and the regions that it gives put each block where the standard has it, and no other block anywhere
+pub record BufferDoes (c : B.Copy) (p : BufferTexturePlan) : Type 0 where
+  pub ends : (rs : List BufferTextureCopy) × Gives p rs
+  pub does : (rs : List BufferTextureCopy) → Gives p rs → (b : TexelBlock) (byte : ℕ) → PutBy c rs b byte ↔ Stands c b byte
+
 -- of every accepted copy, either way, of a format of the standard, sizes of 0 included
 abbrev pub BufferEffects : Type 0
-BufferEffects =
-    (c : B.Copy) (p : BufferTexturePlan) → B.planned (c .reads) c ≡ Plan p → Known (c .texture .format)
-    → (rs : List BufferTextureCopy) → Gives p rs → (b : TexelBlock) (byte : ℕ) → PutBy c rs b byte ↔ Stands c b byte
+BufferEffects = (c : B.Copy) (p : BufferTexturePlan) → B.planned (c .reads) c ≡ Plan p → Known (c .texture .format) → BufferDoes c p
 
 -- ---- between textures
 

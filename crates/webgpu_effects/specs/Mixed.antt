@@ -2,8 +2,10 @@
 use mathlib.Core.Path.{_≡_}
 use mathlib.Core.List.{List}
 use mathlib.Core.Logic.{_⊎_, _↔_}
-use Prim.Native.Nat.{ℕ, _<_}
+use Prim.Native.Nat.{ℕ, _≤_, _<_}
 use Rattle.levels.specs.declared.TextureDimension.the-variants.{D2, D3}
+use Rattle.formats.specs.declared.TextureAspect.the-variants.{All}
+use Rattle.texture_plans.specs.declared.TextureSide.{TextureSide}
 use Rattle.texture_plans.specs.declared.TextureCopy.{TextureCopy}
 use Rattle.texture_regions.specs.Regions.{Copy, depth}
 use Rattle.webgpu_effects.specs.Blocks.{TexelBlock}
@@ -54,3 +56,29 @@ abbrev pub TheyPart : Type 0
 TheyPart =
     (c : Copy) (rs : List TextureCopy) → Accepted c rs → Mixed c → 0 < c .size .width → 0 < c .size .height → 1 < depth c
     → (from : TexelBlock) × (to : TexelBlock) × Copies c from to × (CarriedBy c rs from to → ⊥)
+
+-- ---- and such copies are accepted: two images of one texel each, of r8unorm, by the dimension's number
+
+abbrev pub twoImages : ℕ → TextureSide
+twoImages dimension =
+    record {
+      texture =
+          record {
+            format = 0;
+            dimension = dimension;
+            size = record { width = 1; height = 1; «depth_or_array_layers» = 2 };
+            «mip_level_count» = 1;
+            «sample_count» = 1;
+            usage = record { 0 = 3 };
+          };
+      view = record { «mip_level» = 0; origin = record { x = 0; y = 0; z = 0 }; aspect = All };
+    }
+
+abbrev pub example : ℕ → ℕ → Copy
+example src dst = record { src = twoImages src; dst = twoImages dst; size = record { width = 1; height = 1; «depth_or_array_layers» = 2 } }
+
+abbrev pub IsAccepted : Copy → Type 0
+IsAccepted c = (rs : List TextureCopy) × Accepted c rs
+
+abbrev pub MixedAccepted : Type 0
+MixedAccepted = IsAccepted (example 2 3) × IsAccepted (example 3 2)

@@ -1,7 +1,7 @@
 // What the regions of accepted copies do is what the WebGPU standard's copies do. No code runs here: a function's contract is a
 // claim, and the check asks for its proof.
 ghost use Rattle.webgpu_effects.specs.Effects.{BufferEffects, TextureEffects};
-ghost use Rattle.webgpu_effects.specs.Mixed.{SlicesIntoLayers, LayersIntoSlices, ImagesMissed, TheyPart};
+ghost use Rattle.webgpu_effects.specs.Mixed.{SlicesIntoLayers, LayersIntoSlices, ImagesMissed, TheyPart, MixedAccepted};
 
 // Between a buffer and a texture, either way.
 pub fn buffer_effects()
@@ -19,4 +19,5 @@ pub fn mixed_effects()
     ensures layers { λ _. ⌜ LayersIntoSlices ⌝ }
     ensures missed { λ _. ⌜ ImagesMissed ⌝ }
     ensures apart { λ _. ⌜ TheyPart ⌝ }
+    ensures accepted { λ _. ⌜ MixedAccepted ⌝ }
 {}
