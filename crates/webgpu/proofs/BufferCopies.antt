@@ -224,3 +224,9 @@ buffer-copies reads aligned t aspect layout s = (
   λ e. standard reads aligned t aspect layout s (e .0) (e .1),
   λ v. (goes-of (formatRule reads (t .format) aspect) (both reads aligned t aspect layout s v .0), ours reads aligned t aspect layout s v),
 )
+
+-- so exactly one aspect is chosen
+pub one-aspect :
+    (reads aligned : Bool) (t : Texture) (aspect : TextureAspect) (layout : TexelCopyBufferLayout) → InStandard (t .format) aspect
+    → TextureBufferCopy reads aligned t aspect layout → isOne (bits (named (formatOf (t .format)) aspect)) ≡ true
+one-aspect reads aligned t aspect layout s v = both reads aligned t aspect layout s v .1
