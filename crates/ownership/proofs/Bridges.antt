@@ -97,21 +97,21 @@ flat e h = eqb-true _ _ (all-true (within 1 (e .width) maxSide ∷ eqb (e .heigh
 abbrev pub Dimensioned : Texture → Type 0
 Dimensioned t = ((t .dimension ≡ 1) × (t .size .height ≡ 1)) ⊎ ((t .dimension ≡ 2) ⊎ (t .dimension ≡ 3))
 
-pub dimensioned : (t : Texture) → textureInBounds t ≡ true → Dimensioned t
+pub known : (t : Texture) → textureInBounds t ≡ true → (isFormat (t .format) ≡ true) × Dimensioned t
 unfolding textureInBounds fieldsInBounds
-dimensioned t b =
-    let fields = both-true (fieldsInBounds t) (samplesInBounds t && formatSuits t) b .0 in
-    let rest = both-true (isFormat (t .format)) _ fields .1 in
-    let d = both-true (within 1 (t .dimension) 3) _ rest in
+known t b =
+    let f = both-true (isFormat (t .format)) _ (both-true (fieldsInBounds t) (samplesInBounds t && formatSuits t) b .0) in
+    let d = both-true (within 1 (t .dimension) 3) _ (f .1) in
     let s = both-true (sizeInBounds (dimensionOf (t .dimension)) (t .size)) _ (d .1) in
     let w = bounds _ _ _ (d .0) in
-    go (s .0) (w .0) (w .1) (eqb (t .dimension) 1) (eqb (t .dimension) 2) refl refl
+    (f .0, go (s .0) (w .0) (w .1) (eqb (t .dimension) 1) (eqb (t .dimension) 2) refl refl)
   where
     go : sizeInBounds (dimensionOf (t .dimension)) (t .size) ≡ true → 1 ≤ t .dimension → t .dimension ≤ 3 → (x y : Bool) → eqb (t .dimension) 1 ≡ x → eqb (t .dimension) 2 ≡ y → Dimensioned t
     go h lo hi true y e f = let n = eqb-true _ _ e in inl (n, flat (t .size) (rw n at h))
     go h lo hi false true e f = inr (inl (eqb-true _ _ f))
     go h lo hi false false e f = let n = eqb-false (t .dimension) 1 e in let m = eqb-false (t .dimension) 2 f in inr (inr (omega arith))
 
+-- regions and ranges of d images from z on, in a texture of dimension n
 pub record ByDimension (n from d : ℕ) : Type 0 where
   pub layers : layersOf (dimensionOf n) d ≡ cond (eqb n 2) d 1
   pub depth : depthOf (dimensionOf n) d ≡ cond (eqb n 2) 1 d
@@ -158,6 +158,7 @@ stays level =
     let some = level-laws .some 1 level in
     omega (arith, side-is 1 level)
 
+-- the kind where the cover is partial, p, or whole, q
 module _ (size e : Extent3d) (level : ℕ) (a : TextureAspect) (p q : MemoryInitKind) where
   abbrev plans : ℕ → MemoryInitKind
   plans n = pick (I.sizeDiffers (dimensionOf n) size (mipLevelSize (dimensionOf n) e level) || not (I.isAll a)) p q

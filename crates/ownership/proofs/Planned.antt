@@ -21,7 +21,7 @@ use Rattle.ownership.specs.Copy.{Copy, depth, image, total, count, regio
 use Rattle.ownership.specs.Ranges.{covers, contiguous, touched, filled, bufferRanges}
 use Rattle.ownership.specs.Ranges as R
 use Rattle.ownership.proofs.Accepted.{Checks, plansTexture, bufferSide}
-use Rattle.ownership.proofs.Bridges.{Dimensioned, dimensioned, ByDimension, by-dimension, kind-is, touched-is, filled-is}
+use Rattle.ownership.proofs.Bridges.{Dimensioned, known, ByDimension, by-dimension, kind-is, touched-is, filled-is}
 use Rattle.ownership.proofs.Sound.{linear-is, level-deep, figured}
 
 abbrev pub planOfCopy : Copy → BufferTexturePlan
@@ -48,7 +48,7 @@ module _ (c : Copy) (p : BufferTexturePlan) (k : Checks (c .reads) c p) (pw : 0 
   some-size = rw (ne-eqb (c .size .width) 0 (λ e. omega arith), ne-eqb (c .size .height) 0 (λ e. omega arith), ne-eqb (depth c) 0 (λ e. omega arith))
 
   shape : Dimensioned (c .texture)
-  shape = dimensioned (c .texture) (k .texture-bounds)
+  shape = known (c .texture) (k .texture-bounds) .1
 
   sides : ByDimension (c .texture .dimension) (c .view .origin .z) (depth c)
   sides = by-dimension (c .texture) (c .view .«mip_level») (c .view .origin .z) (depth c) shape (level-deep (c .reads) c p k) pd

@@ -1,18 +1,15 @@
 -- The figures of an accepted copy, in the claim's own words.
 -- Assumes nothing.
 use mathlib.Core.Path.{_≡_, ap, _∙_}
-use mathlib.Core.Bool.{Bool, true, _&&_}
+use mathlib.Core.Bool.{Bool}
 use Prim.Native.Nat.{ℕ, _+_, _*_, _/_, _%_, _≤_, _<_}
 use native.Mathlib.Omega.{arith}
 use native.Mathlib.Nat.{div-add-mod'}
-use Rattle.checks.proofs.Rules.{both-true}
 use Rattle.measures.specs.Measure.{blocksOf, physicalSize}
 use Rattle.measures.proofs.Rounding.{block-laws}
 use Rattle.levels.specs.Level.{dimensionOf, mipLevelSize}
-use Rattle.formats.specs.Sheet.{isFormat, blockWidth, blockHeight}
-use Rattle.records.specs.declared.Texture.{Texture}
+use Rattle.formats.specs.Sheet.{blockWidth, blockHeight}
 use Rattle.records.specs.Limits.{maxBufferSize, maxSide3d}
-use Rattle.records.specs.Bounds.{textureInBounds, fieldsInBounds, samplesInBounds, formatSuits}
 use Rattle.records.specs.Extents.{logicalExtent, physicalExtent}
 use Rattle.records.proofs.Bounded.{buffer-laws, texture-laws}
 use Rattle.linear.specs.declared.Dense.{Dense}
@@ -24,7 +21,7 @@ use Rattle.ownership.specs.Copy.{Copy, depth, bytes, block, wide, high, 
 use Rattle.ownership.specs.Ranges.{contiguous}
 use Rattle.ownership.proofs.Formats.{Figures, figures}
 use Rattle.ownership.proofs.Accepted.{Checks, denseFor}
-use Rattle.ownership.proofs.Bridges.{dense-is, stacked-is, single-is, neither-is}
+use Rattle.ownership.proofs.Bridges.{known, dense-is, stacked-is, single-is, neither-is}
 
 pub record Sound (c : Copy) : Type 0 where
   pub small : c .buffer .size ≤ maxBufferSize
@@ -36,10 +33,6 @@ pub record Sound (c : Copy) : Type 0 where
   pub tall : high c ≤ rows c
   pub end : c .layout .offset + total c ≤ c .buffer .size
   pub deep : c .view .origin .z + depth c ≤ maxSide3d
-
-known-format : (t : Texture) → textureInBounds t ≡ true → isFormat (t .format) ≡ true
-unfolding textureInBounds fieldsInBounds
-known-format t b = both-true (isFormat (t .format)) _ (both-true (fieldsInBounds t) (samplesInBounds t && formatSuits t) b .0) .0
 
 whole : (n side b : ℕ) → 0 < b → side ≡ b → n % side ≡ 0 → (blocksOf n side ≡ n / b) × (n / b * b ≡ n)
 whole n side b pos e h =
@@ -65,7 +58,7 @@ given-is c = simp (stacked-is, dense-is, neither-is, single-is)
 
 module _ (reads : Bool) (c : Copy) (p : BufferTexturePlan) (k : Checks reads c p) where
   pub figured : Figures (c .texture .format) (c .view .aspect)
-  figured = figures reads (c .texture .format) (c .view .aspect) (known-format (c .texture) (k .texture-bounds)) (k .format) (k .one)
+  figured = figures reads (c .texture .format) (c .view .aspect) (known (c .texture) (k .texture-bounds) .0) (k .format) (k .one)
 
   across : (blocksOf (c .size .width) (blockWidth (c .texture .format)) ≡ wide c) × (wide c * block c ≡ c .size .width)
   across = whole (c .size .width) _ (block c) (figured .side-some) (figured .width) (k .range .width-whole)

@@ -31,6 +31,7 @@ plane0 bytes = aspect 8 bytes
 abbrev pub plane1 : ℕ → List Aspect
 plane1 bytes = aspect 16 bytes
 
+-- no bytes that can be copied
 abbrev pub none : ℕ
 none = 0
 

@@ -48,7 +48,7 @@ textureRange c =
 
 -- ---- the buffer's ranges, by words of four bytes, as the Rust has them
 
--- one row and one image, or strides that are dense
+-- rows lie a dense row apart, or there is one in all; images lie their bytes apart, or there is one
 unfoldable pub contiguous : Copy → Bool
 contiguous c =
     (eqb (row c) (dense c) || (leb (high c) 1 && leb (depth c) 1))
