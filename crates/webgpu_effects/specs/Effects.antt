@@ -14,7 +14,7 @@ use Rattle.texture_copies.specs.declared.TexturePlanned.the-variants as P
 use Rattle.texture_copies.specs.Plan.{textureToTexture}
 use Rattle.webgpu.specs.Formats.{Known, formatOf, dimensionOf}
 use Rattle.ownership.specs.Copy as B
-use Rattle.ownership.specs.Demand3.{Gives}
+use Rattle.ownership.specs.Asking.{Gives}
 use Rattle.texture_regions.specs.Regions as T
 use Rattle.texture_regions.specs.Claim as A
 use Rattle.webgpu_effects.specs.Blocks.{TexelBlock, In}
