@@ -1,0 +1,5 @@
+pub mod Accepted
+pub mod Asks
+pub mod States
+pub mod Same
+pub mod Claims

@@ -1,0 +1,53 @@
+-- Copies between 2D and 3D that are accepted, evaluated: every definition on the way to the plan is opened.
+-- Assumes nothing.
+use mathlib.Core.Path.{_≡_, refl}
+use Prim.Native.Nat.{ℕ}
+use native.Mathlib.Omega.{arith}
+use Rattle.checks.specs.Checks.{stop-if}
+use Rattle.measures.specs.Measure.{multiple, blocksOf, roundedUp, physicalSize}
+use Rattle.flags.specs.Flags.{holds}
+use Rattle.levels.specs.Level.{halved, sideAt, mipLevelSize, halvings, maxMipLevels, dimensionOf}
+use Rattle.formats.specs.Sheet.{formats, rowOf, isFormat, blockWidth, blockHeight, aspectsOf, isDepthStencil, removeSrgb, isMultiPlanar}
+use Rattle.formats.specs.Aspects.{askedOf, chosenAspects, aspectSpecificFormat}
+use Rattle.refusals.specs.Answers.{after}
+use Rattle.records.specs.Bounds.{within, sizeInBounds, mipSide, levelsInBounds, mayBeMultisampled, samplesInBounds, dimensionSuits, sidesWhole, planesSuit, fieldsInBounds, formatSuits, textureInBounds, textureChecked}
+use Rattle.records.specs.Extents.{logicalExtent, physicalExtent}
+use Rattle.ranges.specs.Range.{isPartial, overruns, dimensionChecked, sidesChecked, blocksChecked, requiresExactSize, copyExtent, arrayLayerCount, extentChecked, alignmentChecked, rangeChecked}
+use Rattle.selectors.specs.Selector.{baseOf, selectedOf, selectorChecked}
+use Rattle.copies.specs.Copies.{after-range, after-selector}
+use Rattle.texture_copies.specs.declared.TexturePlanned.the-variants.{Plan}
+use Rattle.texture_copies.specs.Plan.{isThis, isPlaneSplit, formatsDiffer, planeChecked, withinOne, usable, selectedCopy, rangedCopy, textureToTexture}
+use Rattle.webgpu.specs.Formats as W
+use Rattle.texture_regions.specs.Regions.{Copy, regionsOf}
+use Rattle.texture_regions.proofs.Accepted.{planFor}
+use Rattle.texture_regions.proofs.Claims.{every-texture-copy}
+use Rattle.webgpu_effects.specs.Mixed.{example, IsAccepted, MixedAccepted}
+
+abbrev Planned : Copy → Type 0
+Planned c = textureToTexture 0 (c .src) 1 (c .dst) (c .size) ≡ Plan (planFor c)
+
+planned : Planned (example 2 3) × Planned (example 3 2)
+unfolding stop-if multiple blocksOf roundedUp physicalSize holds halved sideAt mipLevelSize halvings maxMipLevels dimensionOf formats rowOf isFormat blockWidth blockHeight aspectsOf isDepthStencil removeSrgb isMultiPlanar askedOf chosenAspects aspectSpecificFormat after within sizeInBounds mipSide levelsInBounds mayBeMultisampled samplesInBounds dimensionSuits sidesWhole planesSuit fieldsInBounds formatSuits textureInBounds textureChecked logicalExtent physicalExtent isPartial overruns dimensionChecked sidesChecked blocksChecked requiresExactSize copyExtent arrayLayerCount extentChecked alignmentChecked rangeChecked baseOf selectedOf selectorChecked after-range after-selector isThis isPlaneSplit formatsDiffer planeChecked withinOne usable selectedCopy rangedCopy textureToTexture
+planned = (refl, refl)
+
+r8unorm : W.Known 0
+unfolding W.formats
+r8unorm = omega arith
+
+accepted : (s d : ℕ) → Planned (example s d) → IsAccepted (example s d)
+accepted s d e =
+    let c = example s d in (
+      regionsOf c,
+      record {
+        i = 0;
+        j = 1;
+        plan = planFor c;
+        planned = e;
+        src-known = r8unorm;
+        dst-known = r8unorm;
+        given = every-texture-copy 0 1 c (planFor c) e (regionsOf c) .1 refl;
+      },
+    )
+
+pub mixed-accepted : MixedAccepted
+mixed-accepted = (accepted 2 3 (planned .0), accepted 3 2 (planned .1))

@@ -1,0 +1,5 @@
+pub mod Blocks
+pub mod Standard
+pub mod Regions
+pub mod Effects
+pub mod Mixed
