@@ -1,0 +1,4 @@
+pub mod Asks
+pub mod Slices
+pub mod Prints
+pub mod ByWords

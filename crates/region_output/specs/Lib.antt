@@ -1,0 +1,4 @@
+pub mod Asking
+pub mod Numbers
+pub mod Text
+pub mod Claims
