@@ -2,8 +2,8 @@
 -- Assumes nothing.
 use mathlib.Core.Path.{_≡_, refl, sym, ap, _∙_}
 use mathlib.Core.Bool.{Bool, true, false}
-use mathlib.Core.List.{List, [], _∷_, _++_, map, flatMap}
-use Prim.Native.Nat.{ℕ, zero, suc, _+_, _-_, _*_, _<_}
+use mathlib.Core.List.{List, [], _∷_, flatMap}
+use Prim.Native.Nat.{ℕ, zero, suc, _*_, _<_}
 use native.Mathlib.Omega.{arith}
 use native.Mathlib.Nat.{suc-mul}
 use borrow.Author.Tests.{eq-eqb, ne-eqb, eqb-true, eqb-false}
@@ -22,13 +22,12 @@ use Rattle.plans.specs.Regions.{leftOf, fieldsOf, bufferNumbers, bufferTextureN
 use Rattle.plans.proofs.Behind.{behind-left}
 use Rattle.writer.specs.Writing.{numbersFrom, behindAll}
 use Rattle.writer.proofs.Writes.{numbers-count, behind-fields}
-use Rattle.region_output.specs.Asking.{Region, buffers, bufferTexture, textures, Answer, region, noneLeft, buffersAnswer, bufferTextureAnswer, texturesAnswer, answer, handedBack, Gives, ended, gave}
-use Rattle.region_output.specs.Numbers.{Number, optional, numbers, slot, row, slots}
-use Rattle.region_output.specs.Claims.{Ends, EveryPlanEnds}
+use Rattle.region_output.specs.Asking.{Region, buffers, bufferTexture, textures, region, noneLeft, buffersAnswer, bufferTextureAnswer, texturesAnswer, answer, handedBack, Gives, ended, gave, EveryPlanEnds}
+use Rattle.region_output.specs.Numbers.{optional, numbers, slot, row, slots}
 
 -- ---- one region
 
-some : {n : ℕ} → 0 < n → n ≡ 0 → ⊥
+pub some : {n : ℕ} → 0 < n → n ≡ 0 → ⊥
 some h e = omega arith
 
 above : (n : ℕ) → eqb n 0 ≡ false → 0 < n
@@ -50,7 +49,7 @@ at-end (BufferTexture p) e = rw (eq-eqb (p .left) 0 e) (refl, refl)
 at-end (Textures p) e = rw (eq-eqb (p .left) 0 e) (refl, refl)
 
 -- the region that a plan answers while one is left
-abbrev next : Plan → Region
+abbrev pub next : Plan → Region
 next (Buffers p) = buffers (p .region)
 next (BufferTexture p) = bufferTexture (p .region)
 next (Textures p) = textures (X.regionOf (p .parts) p)
@@ -83,12 +82,11 @@ module _ (p : Plan) (r : Region) (e : answer p ≡ region r) where
       by true t = absurd (unequal (sym e ∙ at-end p (eqb-true _ _ t) .0))
       by false t = above (leftOf p) t
 
+  pub its-region : next p ≡ r
+  its-region = let f : region (next p) ≡ region r = sym (at-more p some-left .0) ∙ e in cc
+
   pub its-numbers : numbersOf p ≡ row r
-  its-numbers =
-      let m = at-more p some-left in
-      let f : region (next p) ≡ region r = sym (m .0) ∙ e in
-      let g : next p ≡ r = cc in
-      m .1 ∙ ap row g
+  its-numbers = at-more p some-left .1 ∙ ap row its-region
 
   pub one-fewer : leftOf p ≡ suc (leftOf (handedBack p))
   one-fewer = rw (handed p) (omega (arith, behind-left p some-left, some-left))

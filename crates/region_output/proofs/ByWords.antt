@@ -3,25 +3,25 @@
 use Prim.{tt}
 use mathlib.Core.Path.{_≡_, refl, sym, ap, _∙_}
 use mathlib.Core.List.{List, [], _∷_, _++_, map, flatMap}
-use Prim.Native.Nat.{ℕ, zero, suc, _*_, _^_, _≤_, _<_}
+use Prim.Native.Nat.{ℕ, zero, suc, _^_, _≤_, _<_}
 use native.Mathlib.Omega.{arith}
 use borrow.Author.Tests.{eq-eqb, ne-eqb, le-leb, lt-leb}
-use lib.ListN.{length, replicate}
+use lib.ListN.{length}
 use Rattle.measures.specs.declared.OptionU32.{OptionU32}
 use Rattle.measures.specs.declared.OptionU32.the-variants.{Given, Absent}
 use Rattle.rows.specs.Rows.{baseNumbers, sizeNumbers}
 use Rattle.plans.specs.declared.Plan.{Plan}
 use Rattle.plans.specs.declared.Plan.the-variants.{Buffers, BufferTexture, Textures}
-use Rattle.plans.specs.Regions.{leftOf, numbersOf, behindOf, regionsFrom, regionsLeft}
-use Rattle.writer.specs.Writing.{numbersFrom, numbersLeft, behindAll, fits, slotsOf, writtenOf}
-use Rattle.plan_words.specs.Laws.{withoutRanges, readBack, Narrow, givenNumbers, narrowNumbers}
+use Rattle.plans.specs.Regions.{leftOf, behindOf, regionsFrom, regionsLeft}
+use Rattle.writer.specs.Writing.{numbersFrom, numbersLeft, behindAll, fits}
+use Rattle.plan_words.specs.Laws.{readBack, Narrow, givenNumbers, narrowNumbers}
 use Rattle.plan_words.proofs.Reading.{every-plan}
 use Rattle.c_regions.specs.Regions.{wordsOf, leftIn, ifLeft, nextNumber, writtenNumber, writtenWords}
 use Rattle.c_regions.specs.Laws.{regionFrom, wordsBehind}
 use Rattle.c_regions.proofs.Steps.{every-step}
 use Rattle.region_output.specs.Asking.{Region, handedBack, Gives, ended, gave}
-use Rattle.region_output.specs.Numbers.{Number, given, optional, place, sides, row, slots, written}
-use Rattle.region_output.specs.Claims.{Below, WordsGive, stop, step, GiveAs, words, EveryPlanSteps, planFrom, narrow, EveryPlanWritesByWords}
+use Rattle.region_output.specs.Numbers.{Number, given, optional, place, sides, row, slots, written, Below}
+use Rattle.region_output.specs.Words.{WordsGive, stop, step, GiveAs, words, EveryPlanSteps, planFrom, narrow, EveryPlanWritesByWords}
 use Rattle.region_output.proofs.Asks.{handed, none-left, some-left, its-numbers, counted, sized, every-plan-ends}
 use Rattle.region_output.proofs.Slices.{left-numbers, left-behind, every-plan-writes}
 

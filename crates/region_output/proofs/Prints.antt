@@ -1,6 +1,6 @@
 -- The listing prints the regions that asking gives.
 -- Assumes nothing.
-use mathlib.Core.Path.{_≡_, refl, sym, ap, _∙_}
+use mathlib.Core.Path.{_≡_, refl, sym, _∙_}
 use mathlib.Core.Bool.{Bool, true, false, cond}
 use mathlib.Core.List.{List, [], _∷_, _++_, map, flatMap, append-assoc, append-nil}
 use Prim.Native.Nat.{ℕ, zero, suc, _+_, _-_, _/_, _%_, _^_, _<_}
@@ -17,7 +17,7 @@ use Rattle.texts.specs.Text.{digitsIn, decimal, isAbsent, numberText, lineText}
 use Rattle.texts.specs.Text as D
 use Rattle.plans.specs.declared.Plan.{Plan}
 use Rattle.plans.specs.declared.Plan.the-variants.{Buffers, BufferTexture, Textures}
-use Rattle.plans.specs.Regions.{leftOf, bytesOf, numbersOf}
+use Rattle.plans.specs.Regions.{bytesOf, numbersOf}
 use Rattle.requests.specs.declared.RangeSlot.{RangeSlot}
 use Rattle.requests.specs.declared.RangeSlot.the-variants.{Texture, Buffer, Absent}
 use Rattle.requests.specs.declared.Ranges.{Ranges}
@@ -25,9 +25,9 @@ use Rattle.requests.specs.Ranges.{slotCount, countOf}
 use Rattle.lines.specs.Lines.{rangeText, rangesText, copyText, planText, answerText, regionText}
 use Rattle.listing.specs.Listing.{regionsText, planOf, copyAnswer}
 use Rattle.region_output.specs.Asking.{Region, Gives, ended, gave}
-use Rattle.region_output.specs.Numbers.{Number, given, absent, numbers, slot, row}
+use Rattle.region_output.specs.Numbers.{Number, given, absent, numbers, slot, row, Below}
 use Rattle.region_output.specs.Text.{text, digits, shown, spaced, line, regionLines, kind, rangeLine, rangeLines, bytesChecked, accepted}
-use Rattle.region_output.specs.Claims.{Below, Told, EveryPlanPrints}
+use Rattle.region_output.specs.Printed.{Told, EveryPlanPrints}
 use Rattle.region_output.proofs.Asks.{handed, its-numbers, counted}
 
 -- ---- numbers
@@ -65,7 +65,7 @@ told (given n ∷ ns) h = rw (given-shown true n (other n (h .0)), told ns (h .1
     other n less = ne-eqb n (2 ^ 64 - 1) (λ e. omega (arith, e, less))
 told (absent ∷ ns) h = rw (absent-shown, told ns h)
 
-plain : (ns : List ℕ) → D.spaced false ns ≡ spaced (map given ns)
+pub plain : (ns : List ℕ) → D.spaced false ns ≡ spaced (map given ns)
 unfolding D.spaced spaced flatMap text isAbsent
 plain [] = refl
 plain (n ∷ ns) = rw (given-shown false n refl, plain ns)

@@ -54,3 +54,12 @@ handedBack (Textures p) = Textures (nextTextures p .plan)
 pub data Gives : Plan → List Region → Type 0 where
   ended : {p : Plan} → answer p ≡ noneLeft → handedBack p ≡ p → Gives p []
   gave : {p : Plan} {r : Region} {rs : List Region} → answer p ≡ region r → Gives (handedBack p) rs → Gives p (r ∷ rs)
+
+-- asking ends, whatever the plan, and gives one list of regions
+pub record Ends (p : Plan) : Type 0 where
+  pub regions : List Region
+  pub gives : Gives p regions
+  pub only : (rs : List Region) → Gives p rs → rs ≡ regions
+
+abbrev pub EveryPlanEnds : Type 0
+EveryPlanEnds = (p : Plan) → Ends p

@@ -1,4 +1,6 @@
 pub mod Asking
 pub mod Numbers
 pub mod Text
-pub mod Claims
+pub mod Written
+pub mod Printed
+pub mod Words

@@ -1,5 +1,6 @@
 -- A region's numbers, and the slice that holds them: 01, the job sheet.
-use Prim.Native.Nat.{ℕ, _-_, _^_}
+use Prim.{Unit}
+use Prim.Native.Nat.{ℕ, _-_, _^_, _<_}
 use mathlib.Core.List.{List, [], _∷_, _++_, map, flatMap}
 use lib.ListN.{length, drop}
 use Rattle.measures.specs.declared.OptionU32.{OptionU32}
@@ -46,3 +47,9 @@ slots rs = flatMap row rs
 -- a slice that holds them from its start, every number past them as it was
 unfoldable pub written : List Region → List ℕ → List ℕ
 written rs slice = slots rs ++ drop (length (slots rs)) slice
+
+-- every number that is given is below another
+abbrev pub Below : ℕ → List Number → Type 0
+Below limit [] = Unit {0}
+Below limit (given n ∷ ns) = (n < limit) × Below limit ns
+Below limit (absent ∷ ns) = Below limit ns

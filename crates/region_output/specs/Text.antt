@@ -1,4 +1,4 @@
--- The listing's text of an accepted copy, as bytes: 01, the job sheet. Decimal text, one space between fields, no leading zeros, a
+-- The listing's text of a copy, as bytes: 01, the job sheet. Decimal text, one space between fields, no leading zeros, a
 -- newline after every line; `-` is an absent number.
 use Prim.Native.Nat.{ℕ, zero, suc, _+_, _/_, _%_}
 use Prim.Native.Char.{code}
@@ -9,6 +9,8 @@ use lib.Dec.{ltb}
 use lib.ListN.{length}
 use Rattle.init.specs.declared.MemoryInitKind.{MemoryInitKind}
 use Rattle.init.specs.declared.MemoryInitKind.the-variants.{ImplicitlyInitialized, NeedsInitializedMemory}
+use Rattle.refusals.specs.declared.TransferError.{TransferError}
+use Rattle.refusals.specs.Numbers.{numbersOf}
 use Rattle.plans.specs.declared.Plan.{Plan}
 use Rattle.plans.specs.declared.Plan.the-variants.{Buffers, BufferTexture, Textures}
 use Rattle.requests.specs.declared.RangeSlot.{RangeSlot}
@@ -66,3 +68,9 @@ unfoldable pub accepted : ℕ → Plan → Ranges → List Region → List ℕ
 accepted k p r rs =
     text "copy" ++ (spaced (given k ∷ []) ++ (line " ok" (given (length rs) ∷ given (length (rangeLines r)) ∷ given (bytesChecked p) ∷ [])
     ++ (flatMap (λ (l : List ℕ). l) (rangeLines r) ++ regionLines rs)))
+
+-- `copy k refused` and its six numbers
+unfoldable pub refused : ℕ → TransferError → List ℕ
+refused k e =
+    let n = numbersOf e in
+    text "copy" ++ (spaced (given k ∷ []) ++ line " refused" (given (n .number) ∷ given (n .side) ∷ given (n .dimension) ∷ given (n .start) ∷ given (n .end) ∷ given (n .limit) ∷ []))

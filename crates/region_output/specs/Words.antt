@@ -1,64 +1,18 @@
--- What is written, printed and handed to other languages of a plan is the regions that asking it gives: all of them, in order.
-use Prim.{Unit}
-use Prim.Native.Nat.{ℕ, _-_, _^_, _≤_, _<_}
+-- What the words of a plan, which callers in other languages keep, give is the regions that asking the plan gives.
+use Prim.Native.Nat.{ℕ, _^_, _≤_, _<_}
 use mathlib.Core.Path.{_≡_}
 use mathlib.Core.List.{List, [], _∷_, _++_, map}
 use lib.ListN.{length, replicate}
-use Rattle.refusals.specs.declared.TransferError.the-variants.{RegionSliceTooShort}
-use Rattle.refusals.specs.declared.Checked.the-variants.{GoOn, Refused}
 use Rattle.plans.specs.declared.Plan.{Plan}
 use Rattle.plans.specs.declared.Plan.the-variants.{Buffers, BufferTexture, Textures}
-use Rattle.requests.specs.declared.Ranges.{Ranges}
-use Rattle.requests.specs.declared.Planned.the-variants as P
-use Rattle.writer.specs.Writing.{slotsOf, writtenOf}
-use Rattle.listing.specs.Listing.{copyAnswer}
+use Rattle.writer.specs.Writing.{slotsOf}
 use Rattle.words.specs.Words.{bufferWords, bufferTextureWords, textureWords}
 use Rattle.plan_words.specs.PlanWords.{buffersFrom, bufferTextureFrom, texturesFrom}
 use Rattle.c_regions.specs.Regions.{ifLeft, nextNumber, bufferRegion, bufferBehind, bufferTextureRegion, bufferTextureBehind, textureRegion, textureBehind, writtenNumber, writtenWords}
-use Rattle.region_output.specs.Asking.{Region, bufferTexture, Gives}
-use Rattle.region_output.specs.Numbers.{Number, given, absent, optional, place, sides, numbers, row, slots, written}
-use Rattle.region_output.specs.Text.{accepted}
+use Rattle.region_output.specs.Asking.{Region, Gives}
+use Rattle.region_output.specs.Numbers.{Number, given, optional, place, sides, row, slots, written, Below}
 
--- ---- asking
-
--- asking ends, whatever the plan, and gives one list of regions
-pub record Ends (p : Plan) : Type 0 where
-  pub regions : List Region
-  pub gives : Gives p regions
-  pub only : (rs : List Region) → Gives p rs → rs ≡ regions
-
-abbrev pub EveryPlanEnds : Type 0
-EveryPlanEnds = (p : Plan) → Ends p
-
--- ---- the region writer
-
--- where there is room, the regions' numbers are in the slice and the plan handed back has none left; else nothing changes
-pub record Writes (p : Plan) (rs : List Region) (slice : List ℕ) : Type 0 where
-  pub room : length (slots rs) ≤ length slice → (slotsOf p slice ≡ written rs slice) × (writtenOf p (length slice) .answer ≡ GoOn) × Gives (writtenOf p (length slice) .plan) []
-  pub short : length slice < length (slots rs) → (slotsOf p slice ≡ slice) × (writtenOf p (length slice) ≡ record { answer = Refused RegionSliceTooShort; plan = p })
-
-abbrev pub EveryPlanWrites : Type 0
-EveryPlanWrites = (p : Plan) (rs : List Region) → Gives p rs → (slice : List ℕ) → Writes p rs slice
-
--- ---- the listing
-
--- every number that is given is below another
-abbrev pub Below : ℕ → List Number → Type 0
-Below limit [] = Unit {0}
-Below limit (given n ∷ ns) = (n < limit) × Below limit ns
-Below limit (absent ∷ ns) = Below limit ns
-
--- none is the one that stands for absent
-abbrev pub Told : List Region → Type 0
-Told [] = Unit {0}
-Told (r ∷ rs) = Below (2 ^ 64 - 1) (numbers r) × Told rs
-
-abbrev pub EveryPlanPrints : Type 0
-EveryPlanPrints =
-    (p : Plan) (rs : List Region) → Gives p rs → Told rs
-    → (k : ℕ) (ranges : Ranges) → copyAnswer k (P.Plan p ranges) ≡ accepted k p ranges rs
-
--- ---- a plan as words
+-- ---- the next region
 
 -- what one of `copy_planner_next_*` answers for words w: 1, a region and the words behind it; or 0, zeros and w. Asking with w, then with
 -- the words behind in turn, until the answer is 0, gives the rows, in order
@@ -83,6 +37,8 @@ words (Textures p) = textureWords p
 -- a plan counts its regions in 32 bits
 abbrev pub EveryPlanSteps : Type 0
 EveryPlanSteps = (p : Plan) (rs : List Region) → Gives p rs → length rs < 2 ^ 32 → GiveAs p (words p) (map row rs)
+
+-- ---- all regions
 
 -- the plan that `copy_planner_write_*` reads from words
 unfoldable pub planFrom : Plan → Plan
