@@ -6,3 +6,4 @@ pub mod Accepted
 pub mod Copies
 pub mod Sheets
 pub mod ByWords
+pub mod Joined

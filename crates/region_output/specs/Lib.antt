@@ -4,3 +4,4 @@ pub mod Text
 pub mod Written
 pub mod Printed
 pub mod Words
+pub mod Copies
