@@ -1,60 +1,61 @@
 -- Formats and aspects of copies between textures against the standard's.
 -- Assumes nothing.
-use mathlib.Core.Path.{_≡_, refl, sym}
-use mathlib.Core.Bool.{Bool, true, false, not, _||_}
-use Prim.Native.Nat.{ℕ, _<_}
-use lib.Dec.{eqb, ltb}
-use lib.ListN.{length}
-use borrow.Author.Tests.{ltb-true, eqb-true}
-use Rattle.checks.specs.Checks.{stop-if}
+use mathlib.Core.Path.{_≡_, refl, sym, ap, _∙_}
+use mathlib.Core.Bool.{Bool, true, false, cond}
+use mathlib.Core.List.{List, [], _∷_}
+use Prim.Native.Nat.{ℕ, _+_, _≤_, _<_}
+use native.Mathlib.Omega.{arith}
+use lib.Dec.{eqb}
 use Rattle.checks.proofs.Tables.{everyBelow, at-below}
-use Rattle.flags.specs.Flags.{holds, met}
 use Rattle.formats.specs.declared.TextureAspect.{TextureAspect}
-use Rattle.formats.specs.declared.TextureAspect.the-variants.{All, StencilOnly, DepthOnly, Plane0, Plane1, Plane2}
-use Rattle.formats.specs.Sheet.{formats, rowOf, aspectsOf, isFormat, isDepthStencil, removeSrgb}
-use Rattle.formats.specs.Aspects.{askedOf, chosenAspects}
-use Rattle.webgpu.specs.WebGpu.{srgbPairs, paired, copyCompatible, NamesAll}
-use Rattle.webgpu.specs.Agreement.{InStandard, CompatibleFormats, AllAspects}
-use Rattle.webgpu.proofs.Tables.{same, same-is, or-rest, below-nv12}
+use Rattle.formats.specs.Sheet as sheet
+use Rattle.formats.specs.Sheet.{removeSrgb}
+use Rattle.webgpu.specs.Formats.{Aspect, Color, Depth, Stencil, Part, srgbPairs, paired, copyCompatible, names, namedOf, formatOf, named}
+use Rattle.webgpu.specs.Agreement.{bit, bits, CompatibleFormats, AllAspects}
+use Rattle.webgpu.proofs.Rows.{same, same-is, below, row-of}
 
 -- ---- formats, by one test that is computed of every two
 
 alike : ℕ → ℕ → Bool
 alike a b = same (eqb (removeSrgb a) (removeSrgb b)) (copyCompatible a b)
 
-all-alike : everyBelow (λ a. everyBelow (alike a) 22) 22 ≡ true
-unfolding alike removeSrgb rowOf formats copyCompatible paired srgbPairs
+all-alike : everyBelow (λ a. everyBelow (alike a) 21) 21 ≡ true
+unfolding alike removeSrgb sheet.rowOf sheet.formats copyCompatible paired srgbPairs
 all-alike = refl
-
-listed : (format : ℕ) → isFormat format ≡ true → format < 22
-unfolding isFormat formats
-listed format known = ltb-true format 22 known
 
 pub compatible-formats : CompatibleFormats
 unfolding alike
-compatible-formats a b p q = same-is _ _ (at-below (alike a) 22 (at-below (λ a. everyBelow (alike a) 22) 22 all-alike a (listed a p)) b (listed b q))
+compatible-formats a b p q = same-is _ _ (at-below (alike a) 21 (at-below (λ a. everyBelow (alike a) 21) 21 all-alike a (below a p)) b (below b q))
 
--- ---- aspects: of a format that is not depth-stencil, what is chosen is all or nothing
+-- ---- aspects: what is named has all the bits exactly where it is all
 
-whole : TextureAspect → ℕ → Bool
-whole aspect format = eqb (chosenAspects format aspect) 0 || (isDepthStencil format || eqb (chosenAspects format aspect) (aspectsOf format))
+some-bit : (a : Aspect) → 0 < bit a
+some-bit Color = omega arith
+some-bit Depth = omega arith
+some-bit Stencil = omega arith
 
-all-whole : (aspect : TextureAspect) → everyBelow (whole aspect) 21 ≡ true
-unfolding whole formats rowOf aspectsOf isDepthStencil askedOf chosenAspects met holds stop-if
-all-whole All = refl
-all-whole StencilOnly = refl
-all-whole DepthOnly = refl
-all-whole Plane0 = refl
-all-whole Plane1 = refl
-all-whole Plane2 = refl
+fewer : (ps : List Part) (asked : TextureAspect) → bits (namedOf ps asked) ≤ bits ps
+fewer [] asked = omega arith
+fewer (p ∷ ps) asked = go (names asked (p .aspect)) (fewer ps asked)
+  where
+    go : (t : Bool) → bits (namedOf ps asked) ≤ bits ps → bits (cond t (p ∷ namedOf ps asked) (namedOf ps asked)) ≤ bit (p .aspect) + bits ps
+    go true h = omega arith
+    go false h = omega arith
 
-module _ (format : ℕ) (aspect : TextureAspect) (s : InStandard format aspect) where
-  chosen-whole : (t : Bool) → isDepthStencil format ≡ t → NamesAll format aspect → chosenAspects format aspect ≡ aspectsOf format
-  unfolding whole
-  chosen-whole true e names = names e
-  chosen-whole false e names =
-      let test = at-below (whole aspect) 21 (all-whole aspect) format (below-nv12 format (s .known) (s .no-planes)) in
-      eqb-true _ _ (or-rest (isDepthStencil format) _ (or-rest (eqb (chosenAspects format aspect) 0) _ test (s .chosen)) e)
+whole : (ps : List Part) (asked : TextureAspect) → bits (namedOf ps asked) ≡ bits ps → namedOf ps asked ≡ ps
+whole [] asked e = refl
+whole (p ∷ ps) asked e = go (names asked (p .aspect)) e (λ h. whole ps asked h)
+  where
+    go :
+        (t : Bool) → bits (cond t (p ∷ namedOf ps asked) (namedOf ps asked)) ≡ bit (p .aspect) + bits ps
+        → (bits (namedOf ps asked) ≡ bits ps → namedOf ps asked ≡ ps) → cond t (p ∷ namedOf ps asked) (namedOf ps asked) ≡ p ∷ ps
+    go true h rest = ap (λ qs. p ∷ qs) (rest (omega arith))
+    go false h rest = absurd (omega (arith, fewer ps asked, some-bit (p .aspect)))
 
 pub all-aspects : AllAspects
-all-aspects format aspect s = (λ e d. e, chosen-whole format aspect s (isDepthStencil format) refl)
+unfolding named
+all-aspects format asked k =
+    let r = row-of format k in (
+      λ e. whole (formatOf format .parts) asked (sym (r .chosen asked) ∙ e ∙ r .aspects),
+      λ e. r .chosen asked ∙ ap bits e ∙ sym (r .aspects),
+    )

@@ -1,6 +1,7 @@
+pub mod Rows
 pub mod Sizes
 pub mod TextureRanges
 pub mod Linears
-pub mod Subresources
-pub mod Tables
+pub mod BufferCopies
 pub mod Compatible
+pub mod Subresources

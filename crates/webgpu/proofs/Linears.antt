@@ -1,7 +1,7 @@
 -- The rule of linear data against the standard's.
 -- Assumes nothing.
 use mathlib.Core.Path.{_≡_, refl, sym, ap, _∙_}
-use mathlib.Core.Bool.{Bool, true, false, _||_}
+use mathlib.Core.Bool.{Bool, true, false, _||_, cond}
 use mathlib.Core.Logic.{_⊎_, inl, inr, ⊎-elim}
 use Prim.Native.Nat.{ℕ, zero, suc, _+_, _-_, _*_, _/_, _%_, _^_, _≤_, _<_}
 use native.Mathlib.Omega.{arith}
@@ -23,11 +23,15 @@ use Rattle.records.specs.declared.TexelCopyBufferLayout.{TexelCopyBufferLayout}
 use Rattle.linear.specs.declared.Dense.{Dense}
 use Rattle.linear.specs.declared.LinearData.{LinearData}
 use Rattle.linear.specs.declared.LinearChecked.the-variants as N
-use Rattle.linear.specs.Linear.{lacks, stacked, severalRows, severalImages, dataOf, blockBytes, denseOf, linearData}
+use Rattle.linear.specs.Linear as linear
+use Rattle.linear.specs.Linear.{lacks, stacked, severalRows, severalImages, dataOf, denseOf, linearData}
 use Rattle.linear.specs.Laws.{rowStride, imageRows, imageStride, imageBytes, totalBytes, given, LinearLaws}
 use Rattle.linear.proofs.Accepted.{every-linear}
-use Rattle.webgpu.specs.WebGpu.{orZero, IsGiven, AtLeast, bytesInLastRow, requiredBytesInCopy, LinearTextureData}
-use Rattle.webgpu.specs.Agreement.{Fits32, Figures, LinearAgreement, LinearRules, Standard, requiredBytes}
+use Rattle.webgpu.specs.Formats.{formatOf}
+use Rattle.webgpu.specs.WebGpu.{blockBytes, orZero, IsGiven, AtLeast, bytesInLastRow, requiredBytesInCopy, LinearTextureData}
+use Rattle.webgpu.specs.Agreement as A
+use Rattle.webgpu.specs.Agreement.{InStandard, Fits32, Figures, LinearAgreement, LinearRules, Standard, requiredBytes}
+use Rattle.webgpu.proofs.Rows.{row-of, bytes-are}
 
 -- ---- given or absent
 
@@ -65,6 +69,10 @@ fits32 Absent n f h = h
 
 -- ---- the bytes: both readings agree where what has to be given is given
 
+picked : (t : Bool) (a b : ℕ) → pick t a b ≡ cond t a b
+picked true a b = refl
+picked false a b = refl
+
 -- strides behind the first matter only where there are more than one
 strides : (n a b : ℕ) → (1 < n → a ≡ b) → (n - 1) * a ≡ b * (n - 1)
 strides n a b h = go (ltb 1 n) refl
@@ -84,21 +92,23 @@ module _ (layout : TexelCopyBufferLayout) (d : Dense) where
   P = orZero (layout .«rows_per_image»)
 
   abbrev image : ℕ
-  image = pick (eqb (d .rows) 0) 0 (S * (d .rows - 1) + d .«row_bytes»)
+  image = cond (eqb (d .rows) 0) 0 (S * (d .rows - 1) + d .«row_bytes»)
 
   image-is : (1 < d .rows → IsGiven (layout .«bytes_per_row»)) → imageBytes layout d ≡ image
   unfolding stacked
   image-is g =
       ap (λ (n : ℕ). pick (eqb (d .rows) 0) 0 (n + d .«row_bytes»))
       (strides (d .rows) (rowStride layout d) S (λ m. same-given (layout .«bytes_per_row») (d .«row_bytes») (g m)))
+      ∙ picked (eqb (d .rows) 0) 0 _
 
   total-is :
       (1 < d .rows → IsGiven (layout .«bytes_per_row»)) → (1 < d .images → IsGiven (layout .«bytes_per_row») × IsGiven (layout .«rows_per_image»))
-      → totalBytes layout d ≡ pick (eqb (d .images) 0) 0 (S * P * (d .images - 1) + image)
+      → totalBytes layout d ≡ cond (eqb (d .images) 0) 0 (S * P * (d .images - 1) + image)
   unfolding stacked
   total-is g h =
       ap (λ (n : ℕ). pick (eqb (d .images) 0) 0 (n + imageBytes layout d)) (strides (d .images) (imageStride layout d) (S * P) stride-is)
       ∙ ap (λ (n : ℕ). pick (eqb (d .images) 0) 0 (S * P * (d .images - 1) + n)) (image-is g)
+      ∙ picked (eqb (d .images) 0) 0 _
     where
       stride-is : 1 < d .images → imageStride layout d ≡ S * P
       stride-is m =
@@ -137,17 +147,23 @@ stacked-fits items stride last a b c = go (eqb items 0)
 
 -- ---- the rule, of a dense row and rows as the standard counts them
 
-module _ (layout : TexelCopyBufferLayout) (format : ℕ) (aspect : TextureAspect) (size : Extent3d) (bufferSize : ℕ) (side : CopySide) (f : Figures layout format aspect size bufferSize) where
+module _ (layout : TexelCopyBufferLayout) (format : ℕ) (aspect : TextureAspect) (size : Extent3d) (bufferSize : ℕ) (side : CopySide) (i : InStandard format aspect) (f : Figures layout format aspect size bufferSize) where
   abbrev d : Dense
   d = denseOf format aspect size
 
-  wide : d .«row_bytes» ≡ size .width / blockWidth format * blockBytes format aspect
-  unfolding denseOf
-  wide = ap (λ (n : ℕ). n * blockBytes format aspect) (blocks-of-whole (blockWidth format) (every-format format .width-some) (size .width) (f .width-whole))
+  -- whole blocks of the standard's size are counted by the planner's
+  counted : (n ours theirs : ℕ) → ours ≡ theirs → 0 < ours → n % theirs ≡ 0 → blocksOf n ours ≡ n / theirs
+  counted n ours theirs e pos h = blocks-of-whole ours pos n (rw e h) ∙ ap (λ (b : ℕ). n / b) e
 
-  high : d .rows ≡ size .height / blockHeight format
+  wide : d .«row_bytes» ≡ size .width / formatOf format .blockWidth * blockBytes format aspect
   unfolding denseOf
-  high = blocks-of-whole (blockHeight format) (every-format format .height-some) (size .height) (f .height-whole)
+  wide =
+      ap (λ (n : ℕ). n * linear.blockBytes format aspect) (counted (size .width) _ _ (row-of format (i .known) .width) (every-format format .width-some) (f .width-whole))
+      ∙ ap (λ (n : ℕ). size .width / formatOf format .blockWidth * n) (bytes-are format aspect i)
+
+  high : d .rows ≡ size .height / formatOf format .blockHeight
+  unfolding denseOf
+  high = counted (size .height) _ _ (row-of format (i .known) .height) (every-format format .height-some) (f .height-whole)
 
   deep : d .images ≡ size .«depth_or_array_layers»
   unfolding denseOf
@@ -155,14 +171,14 @@ module _ (layout : TexelCopyBufferLayout) (format : ℕ) (aspect : TextureAspect
 
   abbrev required : ℕ → ℕ → ℕ → ℕ
   required row rows images =
-      pick (eqb images 0) 0
-      (S layout d * P layout d * (images - 1) + pick (eqb rows 0) 0 (S layout d * (rows - 1) + row))
+      cond (eqb images 0) 0
+      (S layout d * P layout d * (images - 1) + cond (eqb rows 0) 0 (S layout d * (rows - 1) + row))
 
-  required-is : required (d .«row_bytes») (d .rows) (d .images) ≡ requiredBytes layout format aspect size bufferSize side
+  required-is : required (d .«row_bytes») (d .rows) (d .images) ≡ requiredBytes layout format aspect size bufferSize
   unfolding requiredBytesInCopy
   required-is = rw (wide, high, deep)
 
-  holds : (m : LinearData) → linearData layout format aspect bufferSize side size ≡ N.GoOn m → Standard layout format aspect size bufferSize side × (m .«bytes_in_copy» ≡ requiredBytes layout format aspect size bufferSize side)
+  holds : (m : LinearData) → linearData layout format aspect bufferSize side size ≡ N.GoOn m → Standard layout format aspect size bufferSize × (m .«bytes_in_copy» ≡ requiredBytes layout format aspect size bufferSize)
   unfolding linearData dataOf
   holds m e =
       let r = every-linear .rule layout bufferSize side d .went-on m e in
@@ -180,14 +196,16 @@ module _ (layout : TexelCopyBufferLayout) (format : ℕ) (aspect : TextureAspect
         sym (ap (λ (n : LinearData). n .«bytes_in_copy») (r .1)) ∙ t,
       )
 
-  goes-on : Standard layout format aspect size bufferSize side → (m : LinearData) × (linearData layout format aspect bufferSize side size ≡ N.GoOn m)
+  goes-on : Standard layout format aspect size bufferSize → (m : LinearData) × (linearData layout format aspect bufferSize side size ≡ N.GoOn m)
   unfolding linearData severalRows severalImages
   goes-on v =
+      let row-small : d .«row_bytes» < 2 ^ 32 = rw wide (f .row-small) in
+      let rows-small : d .rows < 2 ^ 32 = rw high (f .rows-small) in
       let rows : 1 < d .rows → IsGiven (layout .«bytes_per_row») = λ h. v .rows-given (rw high at h) in
       let images : 1 < d .images → IsGiven (layout .«bytes_per_row») × IsGiven (layout .«rows_per_image») = λ h. v .images-given (rw deep at h) in
       let t = total-is layout d rows images ∙ required-is in
-      let row = fits32 (layout .«bytes_per_row») (d .«row_bytes») (f .bytes-field) (f .row-small) in
-      let high-rows = fits32 (layout .«rows_per_image») (d .rows) (f .rows-field) (f .rows-small) in (
+      let row = fits32 (layout .«bytes_per_row») (d .«row_bytes») (f .bytes-field) row-small in
+      let high-rows = fits32 (layout .«rows_per_image») (d .rows) (f .rows-field) rows-small in (
         given layout d,
         every-linear .rule layout bufferSize side d .goes-on (f .buffer-field)
             (record {
@@ -197,7 +215,7 @@ module _ (layout : TexelCopyBufferLayout) (format : ℕ) (aspect : TextureAspect
               rows-given = not-lacking (layout .«rows_per_image») (severalImages d) (λ e. images (needed-images e) .1);
               inside = rw t (v .inside);
               stride-fits = let p = product (imageRows layout d) (rowStride layout d) high-rows row in omega arith;
-              image-fits = stacked-fits (d .rows) (rowStride layout d) (d .«row_bytes») (f .rows-small) row (f .row-small);
+              image-fits = stacked-fits (d .rows) (rowStride layout d) (d .«row_bytes») rows-small row row-small;
             }),
       )
     where
@@ -210,4 +228,4 @@ module _ (layout : TexelCopyBufferLayout) (format : ℕ) (aspect : TextureAspect
       bytes-needed rows images e = ⊎-elim (λ i. images (ltb-true 1 (d .images) i) .0) (λ r. rows (ltb-true 1 (d .rows) r)) (either (ltb 1 (d .images)) (ltb 1 (d .rows)) e)
 
 pub linear-rules : LinearRules
-linear-rules layout format aspect size bufferSize side f = record { holds = holds layout format aspect size bufferSize side f; goes-on = goes-on layout format aspect size bufferSize side f }
+linear-rules layout format aspect size bufferSize side i f = record { holds = holds layout format aspect size bufferSize side i f; goes-on = goes-on layout format aspect size bufferSize side i f }

@@ -1,149 +1,291 @@
--- Copies within one 2D texture against the standard's sets of subresources.
+-- Copies within one texture against the standard's sets of subresources.
 -- Assumes nothing.
 use mathlib.Core.Path.{_≡_, refl, sym, ap, _∙_}
 use mathlib.Core.Bool.{Bool, true, false, _&&_, _||_}
-use mathlib.Core.List.{[], _∷_}
+use mathlib.Core.List.{List, [], _∷_}
 use mathlib.Core.Logic.{_⊎_, inl, inr, ⊎-elim}
-use Prim.Native.Nat.{ℕ, zero, suc, _+_, _^_, _≤_, _<_, max}
+use Prim.Native.Nat.{ℕ, _+_, _≤_, _<_, max}
 use native.Mathlib.Omega.{arith}
 use lib.Dec.{eqb, ltb}
-use borrow.Author.Tests.{lt-ltb, ltb-true, eq-eqb, eqb-true}
+use borrow.Author.Tests.{lt-ltb, le-ltb, ltb-true, eq-eqb, ne-eqb, eqb-true, eqb-false}
 use Rattle.checks.specs.Checks.{every, stop-if}
 use Rattle.checks.proofs.Rules.{either, both-true, all-true, went-past, goes-past}
+use Rattle.checks.proofs.Tables.{everyBelow, at-below}
 use Rattle.measures.specs.declared.Extent3d.{Extent3d}
 use Rattle.flags.specs.Flags.{holds, shared, meets}
 use Rattle.levels.specs.declared.TextureDimension.{TextureDimension}
 use Rattle.levels.specs.declared.TextureDimension.the-variants.{D1, D2, D3}
-use Rattle.levels.specs.Level.{dimensionOf}
+use Rattle.formats.specs.declared.TextureAspect.{TextureAspect}
+use Rattle.formats.specs.declared.TextureAspect.the-variants.{All, StencilOnly, DepthOnly, Plane0, Plane1, Plane2}
 use Rattle.formats.specs.Aspects.{chosenAspects}
-use Rattle.refusals.specs.declared.TransferError.{TransferError}
 use Rattle.refusals.specs.declared.TransferError.the-variants as E
 use Rattle.refusals.specs.declared.Checked.{Checked}
 use Rattle.refusals.specs.declared.Checked.the-variants as C
 use Rattle.records.specs.declared.Texture.{Texture}
 use Rattle.records.specs.declared.TexelCopyTextureInfo.{TexelCopyTextureInfo}
-use Rattle.ranges.specs.Range.{arrayLayerCount, layersOf}
 use Rattle.selectors.specs.Selector.{overlaps, sameTextureChecked}
-use Rattle.webgpu.specs.WebGpu.{Subresource, InSet, LayerOf, Disjoint}
-use Rattle.webgpu.specs.Agreement.{SameTexture}
+use Rattle.webgpu.specs.Formats.{Aspect, Color, Depth, Stencil, Part, formats, Known, formatOf, named, dimensionOf}
+use Rattle.webgpu.specs.WebGpu.{Subresource, Among, InSet, LayerOf, Disjoint}
+use Rattle.webgpu.specs.Agreement.{bits, layersOf, MovesWithin, AllowsWithin, SameTexture, SameTextureParts}
+use Rattle.webgpu.proofs.Rows.{same, same-is, decided, below, row-of}
 
--- ---- aspects that meet
+-- ---- aspects that meet: a test of each of the three, computed of every format and two views
 
-record Both (a b k : ℕ) : Type 0 where
-  known : k < 6
-  left : holds a (2 ^ k) ≡ true
-  right : holds b (2 ^ k) ≡ true
+is : Aspect → Aspect → Bool
+is Color Color = true
+is Color Depth = false
+is Color Stencil = false
+is Depth Color = false
+is Depth Depth = true
+is Depth Stencil = false
+is Stencil Color = false
+is Stencil Depth = false
+is Stencil Stencil = true
 
-Common : ℕ → ℕ → Type 0
-Common a b = (k : ℕ) × Both a b k
+is-same : (a b : Aspect) → is a b ≡ true → a ≡ b
+unfolding is
+is-same Color Color e = refl
+is-same Color Depth e = let z : _≡_ {A = ℕ} 0 1 = cc in absurd (omega arith)
+is-same Color Stencil e = let z : _≡_ {A = ℕ} 0 1 = cc in absurd (omega arith)
+is-same Depth Color e = let z : _≡_ {A = ℕ} 0 1 = cc in absurd (omega arith)
+is-same Depth Depth e = refl
+is-same Depth Stencil e = let z : _≡_ {A = ℕ} 0 1 = cc in absurd (omega arith)
+is-same Stencil Color e = let z : _≡_ {A = ℕ} 0 1 = cc in absurd (omega arith)
+is-same Stencil Depth e = let z : _≡_ {A = ℕ} 0 1 = cc in absurd (omega arith)
+is-same Stencil Stencil e = refl
 
-common : (a b k : ℕ) → k < 6 → shared a b (2 ^ k) ≡ true → Common a b
-unfolding shared Common
-common a b k h e = let p = both-true (holds a (2 ^ k)) (holds b (2 ^ k)) e in (k, record { known = h; left = p .0; right = p .1 })
+is-itself : (a : Aspect) → is a a ≡ true
+unfolding is
+is-itself Color = refl
+is-itself Depth = refl
+is-itself Stencil = refl
 
-meet-of : (a b : ℕ) → meets a b ≡ true → Common a b
-unfolding meets
-meet-of a b e =
-    ⊎-elim (λ s. common a b 0 (omega arith) s) (λ e.
-    ⊎-elim (λ s. common a b 1 (omega arith) s) (λ e.
-    ⊎-elim (λ s. common a b 2 (omega arith) s) (λ e.
-    ⊎-elim (λ s. common a b 3 (omega arith) s) (λ e.
-    ⊎-elim (λ s. common a b 4 (omega arith) s) (λ s. common a b 5 (omega arith) s)
-    (either (shared a b 16) (shared a b 32) e))
-    (either (shared a b 8) _ e))
-    (either (shared a b 4) _ e))
-    (either (shared a b 2) _ e))
-    (either (shared a b 1) _ e)
+has : List Part → Aspect → Bool
+has [] a = false
+has (p ∷ ps) a = is (p .aspect) a || has ps a
 
-or-left : (s t : Bool) → s ≡ true → (s || t) ≡ true
-or-left s t e = rw e
+among-of : (a : Aspect) (ps : List Part) → has ps a ≡ true → Among a ps
+unfolding has
+among-of a [] e = let z : _≡_ {A = ℕ} 0 1 = cc in absurd (omega arith)
+among-of a (p ∷ ps) e = ⊎-elim (λ h. inl (is-same (p .aspect) a h)) (λ h. inr (among-of a ps h)) (either (is (p .aspect) a) (has ps a) e)
 
 or-right : (s t : Bool) → t ≡ true → (s || t) ≡ true
 or-right true t e = refl
 or-right false t e = e
 
-meets-by : (a b k : ℕ) → k < 6 → shared a b (2 ^ k) ≡ true → meets a b ≡ true
-unfolding meets
-meets-by a b zero h e = or-left (shared a b 1) _ e
-meets-by a b (suc zero) h e = or-right (shared a b 1) _ (or-left (shared a b 2) _ e)
-meets-by a b (suc (suc zero)) h e = or-right (shared a b 1) _ (or-right (shared a b 2) _ (or-left (shared a b 4) _ e))
-meets-by a b (suc (suc (suc zero))) h e = or-right (shared a b 1) _ (or-right (shared a b 2) _ (or-right (shared a b 4) _ (or-left (shared a b 8) _ e)))
-meets-by a b (suc (suc (suc (suc zero)))) h e = or-right (shared a b 1) _ (or-right (shared a b 2) _ (or-right (shared a b 4) _ (or-right (shared a b 8) _ (or-left (shared a b 16) _ e))))
-meets-by a b (suc (suc (suc (suc (suc zero))))) h e = or-right (shared a b 1) _ (or-right (shared a b 2) _ (or-right (shared a b 4) _ (or-right (shared a b 8) _ (or-right (shared a b 16) _ e))))
-meets-by a b (suc (suc (suc (suc (suc (suc k)))))) h e = absurd (omega arith)
+among-by : (a : Aspect) (ps : List Part) → Among a ps → has ps a ≡ true
+unfolding has
+among-by a [] h = absurd h
+among-by a (p ∷ ps) (inl e) = rw (e, is-itself a)
+among-by a (p ∷ ps) (inr h) = or-right (is (p .aspect) a) (has ps a) (among-by a ps h)
 
-both-shared : (a b flag : ℕ) → holds a flag ≡ true → holds b flag ≡ true → shared a b flag ≡ true
-unfolding shared
-both-shared a b flag p q = rw (p, q)
+both : List Part → List Part → Aspect → Bool
+both ps qs a = has ps a && has qs a
+
+common : List Part → List Part → Bool
+common ps qs = both ps qs Color || (both ps qs Depth || both ps qs Stencil)
+
+Common : List Part → List Part → Type 0
+Common ps qs = (a : Aspect) × Among a ps × Among a qs
+
+common-of : (ps qs : List Part) → common ps qs ≡ true → Common ps qs
+unfolding common Common both
+common-of ps qs e = ⊎-elim (at Color) (λ r. ⊎-elim (at Depth) (at Stencil) (either (both ps qs Depth) (both ps qs Stencil) r)) (either (both ps qs Color) _ e)
+  where
+    at : (a : Aspect) → both ps qs a ≡ true → Common ps qs
+    at a h = let p = both-true (has ps a) (has qs a) h in (a, among-of a ps (p .0), among-of a qs (p .1))
+
+both-by : (ps qs : List Part) (a : Aspect) → Among a ps → Among a qs → both ps qs a ≡ true
+unfolding both
+both-by ps qs a p q = rw (among-by a ps p, among-by a qs q)
+
+common-by : (ps qs : List Part) → Common ps qs → common ps qs ≡ true
+unfolding common Common
+common-by ps qs (Color, p, q) = rw (both-by ps qs Color p q)
+common-by ps qs (Depth, p, q) = or-right (both ps qs Color) _ (rw (both-by ps qs Depth p q))
+common-by ps qs (Stencil, p, q) = or-right (both ps qs Color) _ (or-right (both ps qs Depth) _ (both-by ps qs Stencil p q))
+
+-- ---- the bits of what is named hold a flag exactly where its aspect is among them
+
+record Holds (ps : List Part) : Type 0 where
+  color : holds (bits ps) 1 ≡ has ps Color
+  depth : holds (bits ps) 2 ≡ has ps Depth
+  stencil : holds (bits ps) 4 ≡ has ps Stencil
+  plane-0 : holds (bits ps) 8 ≡ false
+  plane-1 : holds (bits ps) 16 ≡ false
+  plane-2 : holds (bits ps) 32 ≡ false
+
+tests : List Part → List Bool
+tests ps =
+    same (holds (bits ps) 1) (has ps Color)
+    ∷ same (holds (bits ps) 2) (has ps Depth)
+    ∷ same (holds (bits ps) 4) (has ps Stencil)
+    ∷ same (holds (bits ps) 8) false
+    ∷ same (holds (bits ps) 16) false
+    ∷ same (holds (bits ps) 32) false
+    ∷ []
+
+all-pass : (a : TextureAspect) → everyBelow (λ f. every (tests (named (formatOf f) a))) 21 ≡ true
+unfolding tests has is holds formats formatOf named
+all-pass All = refl
+all-pass StencilOnly = refl
+all-pass DepthOnly = refl
+all-pass Plane0 = refl
+all-pass Plane1 = refl
+all-pass Plane2 = refl
+
+holds-of : (f : ℕ) (a : TextureAspect) → Known f → Holds (named (formatOf f) a)
+unfolding tests
+holds-of f a k =
+    let t = all-true (tests (named (formatOf f) a)) (at-below (λ f. every (tests (named (formatOf f) a))) 21 (all-pass a) f (below f k)) in
+    record {
+      color = same-is _ _ (t .0);
+      depth = same-is _ _ (t .1 .0);
+      stencil = same-is _ _ (t .1 .1 .0);
+      plane-0 = same-is _ _ (t .1 .1 .1 .0);
+      plane-1 = same-is _ _ (t .1 .1 .1 .1 .0);
+      plane-2 = same-is _ _ (t .1 .1 .1 .1 .1 .0);
+    }
+
+or-no : (t : Bool) → (t || false) ≡ t
+or-no true = refl
+or-no false = refl
+
+meets-is : (ps qs : List Part) → Holds ps → Holds qs → meets (bits ps) (bits qs) ≡ common ps qs
+unfolding meets shared common both
+meets-is ps qs h k =
+    rw (h .color, h .depth, h .stencil, h .plane-0, h .plane-1, h .plane-2, k .color, k .depth, k .stencil)
+    (ap (λ (t : Bool). (has ps Color && has qs Color) || ((has ps Depth && has qs Depth) || t)) (or-no (has ps Stencil && has qs Stencil)))
+
+-- ---- layers: 2D goes by them, and elsewhere two z are near only where they are one
+
+other-dimension : {C : Type 0} {d : TextureDimension} → d ≡ D2 → (d ≡ D1) ⊎ (d ≡ D3) → C
+other-dimension e (inl f) = let z : _≡_ {A = ℕ} 0 1 = cc in absurd (omega arith)
+other-dimension e (inr f) = let z : _≡_ {A = ℕ} 0 1 = cc in absurd (omega arith)
+
+near :
+    (d : TextureDimension) (a b depth layer : ℕ) → ((d ≡ D2 → ⊥) → a ≡ b) → LayerOf d a depth layer → LayerOf d b depth layer
+    → (a < b + layersOf d depth) × (b < a + layersOf d depth)
+near D1 a b depth layer e p q = let h = e (λ x. other-dimension x (inl refl)) in (omega arith, omega arith)
+near D2 a b depth layer e p q = (omega arith, omega arith)
+near D3 a b depth layer e p q = let h = e (λ x. other-dimension x (inr refl)) in (omega arith, omega arith)
+
+one-layer :
+    (d : TextureDimension) (a b depth : ℕ) → a < b + layersOf d depth → b < a + layersOf d depth
+    → (layer : ℕ) × LayerOf d a depth layer × LayerOf d b depth layer
+one-layer D1 a b depth p q = (0, refl, refl)
+one-layer D2 a b depth p q = (max a b, (omega arith, omega arith), (omega arith, omega arith))
+one-layer D3 a b depth p q = (0, refl, refl)
+
+only-layer : (d : TextureDimension) (z depth : ℕ) → (d ≡ D2 → ⊥) → LayerOf d z depth 0
+only-layer D1 z depth u = refl
+only-layer D2 z depth u = absurd (u refl)
+only-layer D3 z depth u = refl
+
+one-z : (d : TextureDimension) (a b depth : ℕ) → (d ≡ D2 → ⊥) → a < b + layersOf d depth → b < a + layersOf d depth → a ≡ b
+one-z D1 a b depth u p q = omega arith
+one-z D2 a b depth u p q = absurd (u refl)
+one-z D3 a b depth u p q = omega arith
 
 -- ---- the rule
 
-module _ (t : Texture) (src dst : TexelCopyTextureInfo) (size : Extent3d) (two : dimensionOf (t .dimension) ≡ D2) where
-  abbrev a : ℕ
-  a = chosenAspects (t .format) (src .aspect)
+module _ (t : Texture) (src dst : TexelCopyTextureInfo) (size : Extent3d) (k : Known (t .format)) where
+  abbrev from : List Part
+  from = named (formatOf (t .format)) (src .aspect)
 
-  abbrev b : ℕ
-  b = chosenAspects (t .format) (dst .aspect)
+  abbrev to : List Part
+  to = named (formatOf (t .format)) (dst .aspect)
+
+  abbrev d : TextureDimension
+  d = dimensionOf (t .dimension)
+
+  abbrev depth : ℕ
+  depth = size .«depth_or_array_layers»
 
   abbrev n : ℕ
-  n = arrayLayerCount t size
+  n = layersOf d depth
 
-  layers-are : n ≡ size .«depth_or_array_layers»
-  unfolding arrayLayerCount
-  layers-are = rw two
+  -- what overlaps: a common aspect, z that are near, and one level
+  record Overlap : Type 0 where
+    shared : Common from to
+    left : src .origin .z < dst .origin .z + n
+    right : dst .origin .z < src .origin .z + n
+    level : src .«mip_level» ≡ dst .«mip_level»
 
-  in-layers : (z layer : ℕ) → LayerOf (dimensionOf (t .dimension)) z (size .«depth_or_array_layers») layer → (z ≤ layer) × (layer < z + n)
-  in-layers z layer h =
-      let g : LayerOf D2 z (size .«depth_or_array_layers») layer = rw two at h in
-      (g .0, omega (arith, layers-are))
+  meets-named : meets (chosenAspects (t .format) (src .aspect)) (chosenAspects (t .format) (dst .aspect)) ≡ common from to
+  meets-named =
+      let r = row-of (t .format) k in
+      rw (r .chosen (src .aspect), r .chosen (dst .aspect)) (meets-is from to (holds-of (t .format) (src .aspect) k) (holds-of (t .format) (dst .aspect) k))
 
-  at-layer : (z layer : ℕ) → z ≤ layer → layer < z + n → LayerOf (dimensionOf (t .dimension)) z (size .«depth_or_array_layers») layer
-  at-layer z layer low up = rw two (low, omega (arith, layers-are))
-
-  -- one subresource in both sets makes the copies overlap
-  overlap-by : (s : Subresource) → InSet t src size s → InSet t dst size s → overlaps src dst (t .format) n ≡ true
+  overlap-by : Overlap → overlaps src dst (t .format) n ≡ true
   unfolding overlaps
-  overlap-by s p q =
-      let i = in-layers (src .origin .z) (s .layer) (p .layer) in
-      let j = in-layers (dst .origin .z) (s .layer) (q .layer) in
-      let m = meets-by a b (s .aspect) (p .aspect-known) (both-shared a b (2 ^ s .aspect) (p .aspect) (q .aspect)) in
-      rw (m, lt-ltb (src .origin .z) (dst .origin .z + n) (omega arith), lt-ltb (dst .origin .z) (src .origin .z + n) (omega arith))
-      (eq-eqb (src .«mip_level») (dst .«mip_level») (sym (p .level) ∙ q .level))
+  overlap-by o =
+      rw (meets-named, common-by from to (o .shared), lt-ltb (src .origin .z) (dst .origin .z + n) (o .left), lt-ltb (dst .origin .z) (src .origin .z + n) (o .right))
+      (eq-eqb (src .«mip_level») (dst .«mip_level») (o .level))
 
-  -- and copies that overlap have one in common
-  common-of : overlaps src dst (t .format) n ≡ true → (s : Subresource) × InSet t src size s × InSet t dst size s
-  unfolding overlaps Common
-  common-of e =
-      let all = all-true (meets a b ∷ ltb (src .origin .z) (dst .origin .z + n) ∷ ltb (dst .origin .z) (src .origin .z + n) ∷ eqb (src .«mip_level») (dst .«mip_level») ∷ []) e in
-      let k = meet-of a b (all .0) in
-      let left : src .origin .z < dst .origin .z + n = ltb-true _ _ (all .1 .0) in
-      let right : dst .origin .z < src .origin .z + n = ltb-true _ _ (all .1 .1 .0) in
-      let level : src .«mip_level» ≡ dst .«mip_level» = eqb-true _ _ (all .1 .1 .1 .0) in
-      let z = max (src .origin .z) (dst .origin .z) in (
-        record { level = src .«mip_level»; aspect = k .0; layer = z },
-        record { level = refl; aspect-known = k .1 .known; aspect = k .1 .left; layer = at-layer (src .origin .z) z (omega arith) (omega arith) },
-        record { level = level; aspect-known = k .1 .known; aspect = k .1 .right; layer = at-layer (dst .origin .z) z (omega arith) (omega arith) },
-      )
+  overlap-of : overlaps src dst (t .format) n ≡ true → Overlap
+  unfolding overlaps
+  overlap-of e =
+      let all = all-true (meets (chosenAspects (t .format) (src .aspect)) (chosenAspects (t .format) (dst .aspect)) ∷ ltb (src .origin .z) (dst .origin .z + n) ∷ ltb (dst .origin .z) (src .origin .z + n) ∷ eqb (src .«mip_level») (dst .«mip_level») ∷ []) e in
+      record {
+        shared = common-of from to (sym meets-named ∙ all .0);
+        left = ltb-true _ _ (all .1 .0);
+        right = ltb-true _ _ (all .1 .1 .0);
+        level = eqb-true _ _ (all .1 .1 .1 .0);
+      }
 
   abbrev refusal : Checked
   refusal = C.Refused (E.InvalidCopyWithinSameTexture (src .aspect) (dst .aspect) (src .origin .z) (dst .origin .z) n)
 
-  disjoint : sameTextureChecked src dst (t .format) n ≡ C.GoOn → Disjoint t src dst size
+  -- the rule goes on exactly where nothing overlaps
+  allows : (Overlap → ⊥) → AllowsWithin t src dst size
   unfolding sameTextureChecked
-  disjoint e s p q =
+  allows apart = go (overlaps src dst (t .format) n) refl
+    where
+      go : (o : Bool) → overlaps src dst (t .format) n ≡ o → stop-if (overlaps src dst (t .format) n) refusal C.GoOn ≡ C.GoOn
+      go true e = absurd (apart (overlap-of e))
+      go false e = goes-past Checked (overlaps src dst (t .format) n) refusal C.GoOn e
+
+  allowed : AllowsWithin t src dst size → Overlap → ⊥
+  unfolding sameTextureChecked
+  allowed e o =
       let g = went-past Checked (overlaps src dst (t .format) n) refusal C.GoOn C.GoOn e (λ r. let z : _≡_ {A = ℕ} 0 1 = cc in omega arith) in
-      let o = overlap-by s p q in
-      let z : _≡_ {A = Bool} true false = sym o ∙ g .0 in
+      let z : _≡_ {A = Bool} true false = sym (overlap-by o) ∙ g .0 in
       let y : _≡_ {A = ℕ} 0 1 = cc in
       omega arith
 
-  goes : Disjoint t src dst size → sameTextureChecked src dst (t .format) n ≡ C.GoOn
-  unfolding sameTextureChecked
-  goes apart = go (overlaps src dst (t .format) n) refl
-    where
-      go : (o : Bool) → overlaps src dst (t .format) n ≡ o → stop-if (overlaps src dst (t .format) n) refusal C.GoOn ≡ C.GoOn
-      go true e = let s = common-of e in absurd (apart (s .0) (s .1) (s .2))
-      go false e = goes-past Checked (overlaps src dst (t .format) n) refusal C.GoOn e
+  -- a subresource in both sets makes the copies overlap, but for the exception
+  overlapping : (MovesWithin t src dst → ⊥) → (s : Subresource) → InSet t src size s → InSet t dst size s → Overlap
+  unfolding Common
+  overlapping kept s p q =
+      let level = sym (p .level) ∙ q .level in
+      let shared : (a : Aspect) × Among a from × Among a to = (s .aspect, p .aspect, q .aspect) in
+      let z = near d (src .origin .z) (dst .origin .z) depth (s .layer) (λ u. decided _ _ (λ m. kept (record { unlayered = u; level = level; moved = m; shared = shared }))) (p .layer) (q .layer) in
+      record { shared = shared; left = z .0; right = z .1; level = level }
+
+  -- and copies that overlap have one in common
+  in-both : Overlap → (s : Subresource) × InSet t src size s × InSet t dst size s
+  unfolding Common
+  in-both o =
+      let l = one-layer d (src .origin .z) (dst .origin .z) depth (o .left) (o .right) in (
+        record { level = src .«mip_level»; aspect = o .shared .0; layer = l .0 },
+        record { level = refl; aspect = o .shared .1; layer = l .1 },
+        record { level = o .level; aspect = o .shared .2; layer = l .2 },
+      )
 
 pub same-texture : SameTexture
-same-texture t src dst size two = (disjoint t src dst size two, goes t src dst size two)
+same-texture t src dst size k kept = (
+  λ g s p q. allowed t src dst size k g (overlapping t src dst size k kept s p q),
+  λ apart. allows t src dst size k (λ o. let b = in-both t src dst size k o in apart (b .0) (b .1) (b .2)),
+)
+
+pub same-texture-parts : SameTextureParts
+same-texture-parts t src dst size k m =
+    let d = dimensionOf (t .dimension) in
+    let depth = size .«depth_or_array_layers» in (
+      allows t src dst size k (λ o. m .moved (one-z d (src .origin .z) (dst .origin .z) depth (m .unlayered) (o .left) (o .right))),
+      λ apart. apart
+          (record { level = src .«mip_level»; aspect = m .shared .0; layer = 0 })
+          (record { level = refl; aspect = m .shared .1; layer = only-layer d (src .origin .z) depth (m .unlayered) })
+          (record { level = m .level; aspect = m .shared .2; layer = only-layer d (dst .origin .z) depth (m .unlayered) }),
+    )

@@ -1,6 +1,11 @@
-// The planner's rules against the WebGPU standard's own. No code runs here: each function's contract is a claim, and the
-// check asks for its proof.
-ghost use Rattle.webgpu.specs.Agreement.{LogicalExtents, PhysicalExtents, LevelCounts, Ranges, LinearRules, BufferCopies, SameTexture, CompatibleFormats, AllAspects};
+// The planner's tables and rules against the WebGPU standard's own. No code runs here: each function's contract is a claim, and
+// the check asks for its proof.
+ghost use Rattle.webgpu.specs.Agreement.{FormatTable, LogicalExtents, PhysicalExtents, LevelCounts, Ranges, RangesPart, LinearRules, BufferCopies, SameTexture, SameTextureParts, CompatibleFormats, AllAspects};
+
+// Blocks, bytes, aspects and chosen aspects of every format are the standard's.
+pub fn tables_agree()
+    ensures { λ _. ⌜ FormatTable ⌝ }
+{}
 
 // Level sizes and level counts are the standard's.
 pub fn extents_agree()
@@ -9,9 +14,11 @@ pub fn extents_agree()
     ensures counts { λ _. ⌜ LevelCounts ⌝ }
 {}
 
-// The range rule goes on exactly where the standard's rules on a texture's part hold.
+// The range rule goes on exactly where the standard's rules on a texture's part hold, read without layers; read with them it parts
+// where some layers are copied of a texture that is copied whole.
 pub fn ranges_agree()
-    ensures { λ _. ⌜ Ranges ⌝ }
+    ensures agree { λ _. ⌜ Ranges ⌝ }
+    ensures part { λ _. ⌜ RangesPart ⌝ }
 {}
 
 // The rule of linear data goes on exactly where the standard's holds, with the standard's required bytes.
@@ -24,9 +31,11 @@ pub fn buffer_copies_agree()
     ensures { λ _. ⌜ BufferCopies ⌝ }
 {}
 
-// A 2D texture is copied onto itself exactly where the standard's sets of subresources are disjoint.
+// A texture is copied onto itself exactly where the standard's sets of subresources are disjoint, but for one level of a 1D or 3D
+// texture at two z.
 pub fn same_texture_agrees()
-    ensures { λ _. ⌜ SameTexture ⌝ }
+    ensures agree { λ _. ⌜ SameTexture ⌝ }
+    ensures part { λ _. ⌜ SameTextureParts ⌝ }
 {}
 
 // Formats are copied into one another, and their aspects chosen, as the standard has it.

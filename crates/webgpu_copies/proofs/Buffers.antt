@@ -1,13 +1,14 @@
 -- Copies between buffers against the standard's.
 -- Assumes nothing.
-use mathlib.Core.Path.{_≡_, refl}
-use mathlib.Core.Bool.{Bool, true, false, not}
-use Prim.Native.Nat.{ℕ, _-_, _%_}
+use mathlib.Core.Path.{_≡_, refl, sym, _∙_}
+use mathlib.Core.Bool.{Bool, true, false, not, _&&_, _||_}
+use mathlib.Core.Logic.{_⊎_, inl, inr, ⊎-elim}
+use Prim.Native.Nat.{ℕ, _-_, _/_, _%_}
 use native.Mathlib.Omega.{arith}
 use lib.Dec.{eqb, ltb}
-use borrow.Author.Tests.{le-ltb, ltb-false, eq-eqb, eqb-true, not-false}
+use borrow.Author.Tests.{le-ltb, ltb-false, eq-eqb, eqb-true, not-true, not-false}
 use Rattle.checks.specs.Checks.{stop-if}
-use Rattle.checks.proofs.Rules.{not-no, goes-past}
+use Rattle.checks.proofs.Rules.{not-no, both-true, either, went-past, goes-past}
 use Rattle.measures.specs.declared.OptionU64.{OptionU64}
 use Rattle.measures.specs.declared.OptionU64.the-variants as O
 use Rattle.measures.specs.Measure.{multiple}
@@ -25,10 +26,12 @@ use Rattle.records.specs.declared.Device.{Device}
 use Rattle.records.specs.Bounds.{bufferInBounds, bufferChecked}
 use Rattle.buffer_copies.specs.declared.BufferPlanned.{BufferPlanned}
 use Rattle.buffer_copies.specs.declared.BufferPlanned.the-variants as B
-use Rattle.buffer_copies.specs.BufferCopies.{lacksIndexFact, sizeOf, planOf, fittingCopy, sizedCopy, bufferToBuffer}
-use Rattle.webgpu.specs.WebGpu.{copySizeOf, CopyBufferToBuffer}
-use Rattle.webgpu_copies.specs.WholeCopies.{GivesBufferPlan, BuffersReached, BufferToBuffer}
-use Rattle.webgpu_copies.proofs.Lines.{past-line, by-line, past-rule, by-rule}
+use Rattle.buffer_copies.specs.BufferCopies.{isShared, lacksIndexFact, sizeOf, planOf, fittingCopy, sizedCopy, bufferToBuffer}
+use Rattle.webgpu.specs.WebGpu.{Has, copySizeOf, CopyBufferToBuffer}
+use Rattle.webgpu_copies.specs.Bounds.{BufferInBounds}
+use Rattle.webgpu_copies.specs.WholeCopies.{GivesBufferPlan, Shared, IndexRestricted, BuffersExcepted, BufferToBuffer, BufferToBufferParts}
+use Rattle.webgpu_copies.proofs.Lines.{flag-of, flag-by, opposite, tested, past-line, by-line, past-rule, by-rule}
+use Rattle.webgpu_copies.proofs.Records.{record-bounds}
 
 -- ---- one line each, both ways
 
@@ -57,6 +60,16 @@ multiple-by : (n m : ℕ) → n % m ≡ 0 → not (multiple n m) ≡ false
 unfolding multiple
 multiple-by n m h = not-no _ (eq-eqb (n % m) 0 h)
 
+no-refusal : {e : TransferError} → C.Refused e ≡ C.GoOn → ⊥
+no-refusal h = let z : _≡_ {A = ℕ} 0 1 = cc in omega arith
+
+pub buffer-kept : (b : Buffer) (side : CopySide) → bufferChecked b side ≡ C.GoOn → BufferInBounds b
+unfolding bufferChecked
+buffer-kept b side h = record-bounds .buffers b .0 (not-false _ (went-past Checked (not (bufferInBounds b)) (C.Refused (E.InvalidBufferRecord side)) C.GoOn C.GoOn h no-refusal .0))
+
+pub buffer-bounds : (b : Buffer) → ((BufferInBounds b → ⊥) → ⊥) → bufferInBounds b ≡ true
+buffer-bounds b kept = tested (bufferInBounds b) (record-bounds .buffers b .1) kept
+
 pub buffer-goes : (b : Buffer) (side : CopySide) → bufferInBounds b ≡ true → bufferChecked b side ≡ C.GoOn
 unfolding bufferChecked
 buffer-goes b side h = goes-past Checked (not (bufferInBounds b)) (C.Refused (E.InvalidBufferRecord side)) C.GoOn (not-no (bufferInBounds b) h)
@@ -67,13 +80,92 @@ unfolding sizeOf
 size-is src offset (O.Given n) = refl
 size-is src offset O.Absent = refl
 
+-- ---- 34, by its test and by its words
+
+has : (word flag : ℕ) → holds word flag ≡ true → Has word flag
+unfolding holds
+has word flag e = eqb-true (word / flag % 2) 1 e
+
+holding : (word flag : ℕ) → Has word flag → holds word flag ≡ true
+unfolding holds
+holding word flag h = eq-eqb (word / flag % 2) 1 h
+
+or-left : (s t : Bool) → s ≡ true → (s || t) ≡ true
+or-left s t e = rw e
+
+or-right : (s t : Bool) → t ≡ true → (s || t) ≡ true
+or-right true t e = refl
+or-right false t e = e
+
+shared-of : (b : Buffer) → isShared (b .usage .0) ≡ true → Shared b
+unfolding isShared
+shared-of b e =
+    let u = b .usage .0 in
+    ⊎-elim (λ h. inl (has u 32 h)) (λ r.
+    ⊎-elim (λ h. inr (inl (has u 64 h))) (λ r.
+    ⊎-elim (λ h. inr (inr (inl (has u 256 h)))) (λ h. inr (inr (inr (has u 128 h))))
+    (either (holds u 256) (holds u 128) r))
+    (either (holds u 64) _ r))
+    (either (holds u 32) _ e)
+
+shared-by : (b : Buffer) → Shared b → isShared (b .usage .0) ≡ true
+unfolding isShared
+shared-by b (inl h) = or-left (holds (b .usage .0) 32) _ (holding _ 32 h)
+shared-by b (inr (inl h)) = or-right (holds (b .usage .0) 32) _ (or-left (holds (b .usage .0) 64) _ (holding _ 64 h))
+shared-by b (inr (inr (inl h))) = or-right (holds (b .usage .0) 32) _ (or-right (holds (b .usage .0) 64) _ (or-left (holds (b .usage .0) 256) _ (holding _ 256 h)))
+shared-by b (inr (inr (inr h))) = or-right (holds (b .usage .0) 32) _ (or-right (holds (b .usage .0) 64) _ (or-right (holds (b .usage .0) 256) _ (holding _ 128 h)))
+
+module _ (device : Device) (src dst : Buffer) where
+  abbrev indexed : Bool
+  indexed = holds (src .usage .0) 16 || holds (dst .usage .0) 16
+
+  abbrev shares : Bool
+  shares = isShared (src .usage .0) || isShared (dst .usage .0)
+
+  restricted-of : lacksIndexFact device (src .usage .0) (dst .usage .0) ≡ true → IndexRestricted device src dst
+  unfolding lacksIndexFact
+  restricted-of e =
+      let p = both-true (not (device .«unrestricted_index_buffer»)) (indexed && shares) e in
+      let q = both-true indexed shares (p .1) in
+      record {
+        fact = not-true _ (p .0);
+        index = ⊎-elim (λ h. inl (has _ 16 h)) (λ h. inr (has _ 16 h)) (either (holds (src .usage .0) 16) _ (q .0));
+        shared = ⊎-elim (λ h. inl (shared-of src h)) (λ h. inr (shared-of dst h)) (either (isShared (src .usage .0)) _ (q .1));
+      }
+
+  restricted-by : IndexRestricted device src dst → lacksIndexFact device (src .usage .0) (dst .usage .0) ≡ true
+  unfolding lacksIndexFact
+  restricted-by r = rw (r .fact, index (r .index)) (shared (r .shared))
+    where
+      index : Has (src .usage .0) 16 ⊎ Has (dst .usage .0) 16 → indexed ≡ true
+      index (inl h) = or-left (holds (src .usage .0) 16) _ (holding _ 16 h)
+      index (inr h) = or-right (holds (src .usage .0) 16) _ (holding _ 16 h)
+
+      shared : Shared src ⊎ Shared dst → shares ≡ true
+      shared (inl h) = or-left (isShared (src .usage .0)) _ (shared-by src h)
+      shared (inr h) = or-right (isShared (src .usage .0)) _ (shared-by dst h)
+
+  unrestricted : (IndexRestricted device src dst → ⊥) → lacksIndexFact device (src .usage .0) (dst .usage .0) ≡ false
+  unrestricted kept = go (lacksIndexFact device (src .usage .0) (dst .usage .0)) refl
+    where
+      go : (t : Bool) → lacksIndexFact device (src .usage .0) (dst .usage .0) ≡ t → t ≡ false
+      go true e = absurd (kept (restricted-of e))
+      go false e = refl
+
 -- ---- the order of checks
 
-module _ (device : Device) (i j : ℕ) (src dst : Buffer) (srcOffset dstOffset : ℕ) (r : BuffersReached device src dst) where
+module _ (device : Device) (i j : ℕ) (src dst : Buffer) (srcOffset dstOffset : ℕ) where
   abbrev planned : OptionU64 → BufferPlanned
   planned size = bufferToBuffer device i src srcOffset j dst dstOffset size
 
-  holds-of : (size : OptionU64) → GivesBufferPlan (planned size) → CopyBufferToBuffer (eqb i j) src dst srcOffset dstOffset (sizeOf size (src .size - srcOffset))
+  -- what an acceptance says: the standard's rules, and that nothing is excepted
+  record Accepted (size : ℕ) : Type 0 where
+    rules : CopyBufferToBuffer (eqb i j) src dst srcOffset dstOffset size
+    src-bounds : BufferInBounds src
+    dst-bounds : BufferInBounds dst
+    index-fact : lacksIndexFact device (src .usage .0) (dst .usage .0) ≡ false
+
+  holds-of : (size : OptionU64) → GivesBufferPlan (planned size) → Accepted (sizeOf size (src .size - srcOffset))
   unfolding bufferToBuffer sizedCopy fittingCopy
   holds-of size g =
       let n = sizeOf size (src .size - srcOffset) in
@@ -91,39 +183,56 @@ module _ (device : Device) (i j : ℕ) (src dst : Buffer) (srcOffset dstOffset :
       let dst-start = past (ltb (dst .size) dstOffset) (E.BufferStartOffsetOverrun dstOffset (dst .size) Destination) _ (end .1) in
       let dst-end = past (ltb (dst .size - dstOffset) n) (E.BufferEndOffsetOverrun dstOffset n (dst .size) Destination) _ (dst-start .1) in
       record {
-        different = other .0;
-        src-usage = not-false _ (u .0);
-        dst-usage = not-false _ (v .0);
-        size-aligned = multiple-of n 4 (whole .0);
-        src-aligned = multiple-of srcOffset 4 (x .0);
-        dst-aligned = multiple-of dstOffset 4 (y .0);
-        src-inside = omega (arith, ltb-false (src .size) srcOffset (start .0), ltb-false (src .size - srcOffset) n (end .0));
-        dst-inside = omega (arith, ltb-false (dst .size) dstOffset (dst-start .0), ltb-false (dst .size - dstOffset) n (dst-end .0));
+        rules =
+            record {
+              different = other .0;
+              src-usage = flag-of (src .usage .0) 4 (u .0);
+              dst-usage = flag-of (dst .usage .0) 8 (v .0);
+              size-aligned = multiple-of n 4 (whole .0);
+              src-aligned = multiple-of srcOffset 4 (x .0);
+              dst-aligned = multiple-of dstOffset 4 (y .0);
+              src-inside = omega (arith, ltb-false (src .size) srcOffset (start .0), ltb-false (src .size - srcOffset) n (end .0));
+              dst-inside = omega (arith, ltb-false (dst .size) dstOffset (dst-start .0), ltb-false (dst .size - dstOffset) n (dst-end .0));
+            };
+        src-bounds = buffer-kept src Source (a .0);
+        dst-bounds = buffer-kept dst Destination (b .0);
+        index-fact = f .0;
       }
 
-  plan-by : (size : OptionU64) → CopyBufferToBuffer (eqb i j) src dst srcOffset dstOffset (sizeOf size (src .size - srcOffset)) → GivesBufferPlan (planned size)
+  plan-by : (size : OptionU64) → (BuffersExcepted device src dst → ⊥) → CopyBufferToBuffer (eqb i j) src dst srcOffset dstOffset (sizeOf size (src .size - srcOffset)) → GivesBufferPlan (planned size)
   unfolding bufferToBuffer sizedCopy fittingCopy
-  plan-by size v =
+  plan-by size kept v =
       let n = sizeOf size (src .size - srcOffset) in
       let s = v .src-inside in
       let d = v .dst-inside in
-      pass (bufferChecked src Source) _ (buffer-goes src Source (r .src-bounds))
-      (pass (bufferChecked dst Destination) _ (buffer-goes dst Destination (r .dst-bounds))
+      pass (bufferChecked src Source) _ (buffer-goes src Source (buffer-bounds src (λ x. kept (inl x))))
+      (pass (bufferChecked dst Destination) _ (buffer-goes dst Destination (buffer-bounds dst (λ x. kept (inr (inl x)))))
       (by (eqb i j) E.SameSourceDestinationBuffer _ (v .different)
-      (by (not (holds (src .usage .0) 4)) (E.MissingBufferUsage Source) _ (not-no _ (v .src-usage))
-      (by (not (holds (dst .usage .0) 8)) (E.MissingBufferUsage Destination) _ (not-no _ (v .dst-usage))
+      (by (not (holds (src .usage .0) 4)) (E.MissingBufferUsage Source) _ (flag-by (src .usage .0) 4 (v .src-usage))
+      (by (not (holds (dst .usage .0) 8)) (E.MissingBufferUsage Destination) _ (flag-by (dst .usage .0) 8 (v .dst-usage))
       (by (ltb (src .size) srcOffset) (E.BufferStartOffsetOverrun srcOffset (src .size) Source) _ (le-ltb (src .size) srcOffset (omega (arith, s)))
       (by (not (multiple n 4)) (E.UnalignedCopySize n) _ (multiple-by n 4 (v .size-aligned))
       (by (not (multiple srcOffset 4)) (E.UnalignedBufferOffset srcOffset) _ (multiple-by srcOffset 4 (v .src-aligned))
       (by (not (multiple dstOffset 4)) (E.UnalignedBufferOffset dstOffset) _ (multiple-by dstOffset 4 (v .dst-aligned))
-      (by (lacksIndexFact device (src .usage .0) (dst .usage .0)) (E.MissingDownlevelFlags UnrestrictedIndexBuffer) _ (r .index-fact)
+      (by (lacksIndexFact device (src .usage .0) (dst .usage .0)) (E.MissingDownlevelFlags UnrestrictedIndexBuffer) _ (unrestricted device src dst (λ x. kept (inr (inr x))))
       (by (ltb (src .size - srcOffset) n) (E.BufferEndOffsetOverrun srcOffset n (src .size) Source) _ (le-ltb (src .size - srcOffset) n (omega (arith, s)))
       (by (ltb (dst .size) dstOffset) (E.BufferStartOffsetOverrun dstOffset (dst .size) Destination) _ (le-ltb (dst .size) dstOffset (omega (arith, d)))
       (by (ltb (dst .size - dstOffset) n) (E.BufferEndOffsetOverrun dstOffset n (dst .size) Destination) _ (le-ltb (dst .size - dstOffset) n (omega (arith, d)))
       (planOf srcOffset dstOffset n, refl)))))))))))))
 
 pub buffer-to-buffer : BufferToBuffer
-buffer-to-buffer device i j src dst srcOffset dstOffset size r = (
-  λ g. rw (← size-is src srcOffset size) (holds-of device i j src dst srcOffset dstOffset r size g),
-  λ v. plan-by device i j src dst srcOffset dstOffset r size (rw (size-is src srcOffset size) v),
+buffer-to-buffer device i j src dst srcOffset dstOffset size kept = (
+  λ g. rw (← size-is src srcOffset size) (holds-of device i j src dst srcOffset dstOffset size g .rules),
+  λ v. plan-by device i j src dst srcOffset dstOffset size kept (rw (size-is src srcOffset size) v),
 )
+
+pub buffer-to-buffer-parts : BufferToBufferParts
+buffer-to-buffer-parts device i j src dst srcOffset dstOffset size x g = go x
+  where
+    accepted : Accepted device i j src dst srcOffset dstOffset (sizeOf size (src .size - srcOffset))
+    accepted = holds-of device i j src dst srcOffset dstOffset size g
+
+    go : BuffersExcepted device src dst → ⊥
+    go (inl out) = out (accepted .src-bounds)
+    go (inr (inl out)) = out (accepted .dst-bounds)
+    go (inr (inr r)) = opposite _ (restricted-by device src dst r) (accepted .index-fact)

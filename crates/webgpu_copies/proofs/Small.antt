@@ -1,14 +1,14 @@
--- The figures of a part that lies inside its texture: a dense row and its rows are within 32 bits.
+-- The figures of a part that lies inside its texture: its row and its rows are within 32 bits.
 -- Assumes nothing.
 use mathlib.Core.Path.{_≡_, refl, ap}
 use mathlib.Core.Bool.{true}
-use Prim.Native.Nat.{ℕ, _+_, _*_, _≤_, _<_}
+use Prim.Native.Nat.{ℕ, _+_, _*_, _/_, _≤_, _<_}
 use native.Mathlib.Omega.{arith}
-use native.Mathlib.Nat.{mul-le-mul}
+use native.Mathlib.Nat.{mul-le-mul, div-le-self}
 use Rattle.measures.specs.declared.Extent3d.{Extent3d}
 use Rattle.measures.specs.declared.OptionU32.{OptionU32}
 use Rattle.measures.specs.declared.OptionU32.the-variants.{Given, Absent}
-use Rattle.measures.specs.Measure.{blocksOf, physicalSize, orElse}
+use Rattle.measures.specs.Measure.{physicalSize, orElse}
 use Rattle.measures.proofs.Rounding.{block-laws}
 use Rattle.formats.specs.declared.TextureAspect.{TextureAspect}
 use Rattle.formats.specs.Sheet.{blockWidth, blockHeight}
@@ -17,24 +17,19 @@ use Rattle.formats.specs.Laws.{maxBlockSide, maxBlockBytes}
 use Rattle.formats.proofs.Rows.{every-format}
 use Rattle.records.specs.declared.Texture.{Texture}
 use Rattle.records.specs.Limits.{maxSide}
-use Rattle.records.specs.Bounds.{textureInBounds}
+use Rattle.records.specs.Bounds.{bufferInBounds, textureInBounds}
 use Rattle.records.specs.Extents.{logicalExtent, physicalExtent}
 use Rattle.records.proofs.Bounded.{buffer-laws, texture-laws}
-use Rattle.linear.specs.Linear.{blockBytes, denseOf}
-use Rattle.webgpu.specs.WebGpu.{TexelCopyTexture}
-use Rattle.webgpu.specs.Agreement.{Figures}
+use Rattle.linear.specs.Linear as linear
+use Rattle.webgpu.specs.Formats.{formatOf}
+use Rattle.webgpu.specs.WebGpu.{Reading, TexelCopyTexture, blockBytes}
+use Rattle.webgpu.specs.Agreement.{InStandard, Figures}
+use Rattle.webgpu.proofs.Rows.{bytes-are}
 use Rattle.webgpu.proofs.Sizes.{physical-extents}
-use Rattle.webgpu_copies.specs.WholeCopies.{Copy, Reached}
+use Rattle.webgpu_copies.specs.WholeCopies.{Copy, Compared}
 
--- blocks are no more than their texels
-few-blocks : (n size : ℕ) → 0 < size → blocksOf n size ≤ n
-few-blocks n size pos =
-    let same : n ≤ n = omega arith in
-    let once : n * 1 ≤ n * size = mul-le-mul same pos in
-    block-laws size pos .least n n (omega arith)
-
-few-bytes : (format : ℕ) (aspect : TextureAspect) → blockBytes format aspect ≤ maxBlockBytes
-unfolding blockBytes orElse
+few-bytes : (format : ℕ) (aspect : TextureAspect) → linear.blockBytes format aspect ≤ maxBlockBytes
+unfolding linear.blockBytes orElse
 few-bytes format aspect = go (blockCopySize format aspect) refl
   where
     go : (o : OptionU32) → blockCopySize format aspect ≡ o → orElse o 0 ≤ maxBlockBytes
@@ -54,22 +49,26 @@ rounded t b level =
     let h = block-laws (blockHeight (t .format)) (f .height-some) .tight (logicalExtent t level .height) in
     (omega (arith, s .width-few, f .width-few), omega (arith, s .height-few, f .height-few))
 
-pub figures-of : (c : Copy) → Reached c → TexelCopyTexture (c .texture) (c .view) (c .size) → Figures (c .layout) (c .texture .format) (c .view .aspect) (c .size) (c .buffer .size)
-unfolding denseOf
-figures-of c r v =
+pub figures-of :
+    (reading : Reading) (c : Copy) → Compared c → InStandard (c .texture .format) (c .view .aspect) → bufferInBounds (c .buffer) ≡ true → textureInBounds (c .texture) ≡ true
+    → TexelCopyTexture reading (c .texture) (c .view) (c .size) → Figures (c .layout) (c .texture .format) (c .view .aspect) (c .size) (c .buffer .size)
+figures-of reading c r i in-buffer in-texture v =
     let format = c .texture .format in
     let level = c .view .«mip_level» in
-    let few = rounded (c .texture) (r .texture-bounds) level in
-    let wide = ap (λ (e : Extent3d). e .width) (physical-extents (c .texture) level) in
-    let high = ap (λ (e : Extent3d). e .height) (physical-extents (c .texture) level) in
-    let columns = few-blocks (c .size .width) (blockWidth format) (every-format format .width-some) in
-    let rows = few-blocks (c .size .height) (blockHeight format) (every-format format .height-some) in
-    let narrow : blocksOf (c .size .width) (blockWidth format) ≤ maxRounded = omega (arith, v .range .x, few .0, wide, columns) in
-    let row : blocksOf (c .size .width) (blockWidth format) * blockBytes format (c .view .aspect) ≤ maxRounded * maxBlockBytes = mul-le-mul narrow (few-bytes format (c .view .aspect)) in
+    let f = formatOf format in
+    let few = rounded (c .texture) in-texture level in
+    let same = physical-extents (c .texture) level (r .known) in
+    let wide = ap (λ (e : Extent3d). e .width) same in
+    let high = ap (λ (e : Extent3d). e .height) same in
+    let columns = div-le-self (c .size .width) (f .blockWidth) in
+    let rows = div-le-self (c .size .height) (f .blockHeight) in
+    let narrow : c .size .width / f .blockWidth ≤ maxRounded = omega (arith, v .range .x, few .0, wide, columns) in
+    let bytes : blockBytes format (c .view .aspect) ≤ maxBlockBytes = rw (← bytes-are format (c .view .aspect) i) (few-bytes format (c .view .aspect)) in
+    let row : c .size .width / f .blockWidth * blockBytes format (c .view .aspect) ≤ maxRounded * maxBlockBytes = mul-le-mul narrow bytes in
     record {
       bytes-field = r .bytes-field;
       rows-field = r .rows-field;
-      buffer-field = omega (arith, buffer-laws (c .buffer) (r .buffer-bounds));
+      buffer-field = omega (arith, buffer-laws (c .buffer) in-buffer);
       width-whole = v .range .width;
       height-whole = v .range .height;
       row-small = omega (arith, row);

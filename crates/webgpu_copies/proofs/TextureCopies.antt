@@ -2,18 +2,20 @@
 -- Assumes nothing.
 use mathlib.Core.Path.{_≡_, refl, sym, ap, _∙_}
 use mathlib.Core.Bool.{Bool, true, false, not, _&&_}
+use mathlib.Core.Logic.{_⊎_, inl, inr, _↔_}
 use Prim.Native.Nat.{ℕ}
 use native.Mathlib.Omega.{arith}
 use lib.Dec.{eqb}
 use borrow.Author.Tests.{eq-eqb, eqb-true, not-true, not-false}
 use Rattle.checks.specs.Checks.{stop-if}
-use Rattle.checks.proofs.Rules.{not-yes, not-no, goes-past}
+use Rattle.checks.proofs.Rules.{not-yes, not-no, both-true}
 use Rattle.checks.proofs.Tables.{everyBelow, at-below}
 use Rattle.measures.specs.declared.Extent3d.{Extent3d}
 use Rattle.measures.specs.declared.OptionU32.the-variants as O
 use Rattle.flags.specs.Flags.{holds}
-use Rattle.levels.specs.declared.TextureDimension.the-variants.{D2}
-use Rattle.levels.specs.Level.{dimensionOf}
+use Rattle.levels.specs.declared.TextureDimension.{TextureDimension}
+use Rattle.levels.specs.declared.TextureDimension.the-variants.{D1, D2, D3}
+use Rattle.levels.specs.Level as levels
 use Rattle.formats.specs.declared.TextureAspect.{TextureAspect}
 use Rattle.formats.specs.Sheet.{formats, rowOf, aspectsOf, isMultiPlanar, removeSrgb}
 use Rattle.formats.specs.Aspects.{chosenAspects, aspectSpecificFormat}
@@ -25,31 +27,34 @@ use Rattle.refusals.specs.declared.Checked.the-variants as C
 use Rattle.refusals.specs.Answers.{after}
 use Rattle.records.specs.declared.TexelCopyTextureInfo.{TexelCopyTextureInfo}
 use Rattle.records.specs.declared.Texture.{Texture}
-use Rattle.records.specs.Bounds.{textureChecked}
+use Rattle.records.specs.Bounds.{textureInBounds, textureChecked}
 use Rattle.ranges.specs.declared.CopyExtent.{CopyExtent}
 use Rattle.ranges.specs.declared.RangeChecked.{RangeChecked}
 use Rattle.ranges.specs.declared.RangeChecked.the-variants as R
+use Rattle.ranges.specs.Range as planned
 use Rattle.ranges.specs.Range.{rangeChecked, arrayLayerCount}
 use Rattle.ranges.proofs.Accepted.{every-range}
 use Rattle.selectors.specs.declared.TextureCopyBase.{TextureCopyBase}
-use Rattle.selectors.specs.declared.SelectorChecked.{SelectorChecked}
-use Rattle.selectors.specs.declared.SelectorChecked.the-variants as S
-use Rattle.selectors.specs.Selector.{selectorOf, baseOf, selectedOf, selectorChecked, sameTextureChecked}
+use Rattle.selectors.specs.Selector.{baseOf, selectorChecked, sameTextureChecked}
 use Rattle.copies.specs.Copies.{after-range, after-selector}
 use Rattle.texture_plans.specs.declared.TextureSide.{TextureSide}
 use Rattle.texture_copies.specs.declared.TexturePlanned.{TexturePlanned}
 use Rattle.texture_copies.specs.declared.TexturePlanned.the-variants as X
 use Rattle.texture_plans.specs.Plan.{planOf}
 use Rattle.texture_copies.specs.Plan.{isThis, isPlaneSplit, formatsDiffer, planeChecked, withinOne, usable, selectedCopy, rangedCopy, textureToTexture}
-use Rattle.webgpu.specs.WebGpu.{Disjoint, copyCompatible, CopyTextureToTexture}
-use Rattle.webgpu.specs.Agreement.{GoesOn, InStandard}
-use Rattle.webgpu.proofs.TextureRanges.{ranges}
-use Rattle.webgpu.proofs.Subresources.{same-texture}
-use Rattle.webgpu.proofs.Tables.{below-nv12}
+use Rattle.webgpu.specs.Formats.{Known, dimensionOf, copyCompatible}
+use Rattle.webgpu.specs.WebGpu.{Has, Reading, WithLayers, OneLayer, Disjoint, TextureCopyRules}
+use Rattle.webgpu.specs.Agreement.{GoesOn, Excepted, layersOf, AllowsWithin}
+use Rattle.webgpu.proofs.Rows.{below}
+use Rattle.webgpu.proofs.Sizes.{dimension-is}
+use Rattle.webgpu.proofs.TextureRanges.{ranges, ranges-part}
+use Rattle.webgpu.proofs.Subresources.{same-texture, same-texture-parts}
 use Rattle.webgpu.proofs.Compatible.{compatible-formats, all-aspects}
-use Rattle.webgpu_copies.specs.WholeCopies.{GivesTexturePlan, SideReached, TexturesReached, TextureToTexture}
-use Rattle.webgpu_copies.proofs.Lines.{past-line, by-line, past-rule, by-rule, past-range, by-range}
-use Rattle.webgpu_copies.proofs.Textures.{texture-goes}
+use Rattle.webgpu_copies.specs.Bounds.{TextureInBounds}
+use Rattle.webgpu_copies.specs.WholeCopies.{GivesTexturePlan, PlansTextures, Rules, StandardTextures, OutOfBounds, OntoItself, LayersLeft, Textures, TexturesPart}
+use Rattle.webgpu_copies.proofs.Lines.{flag-of, flag-by, opposite, past-line, by-line, past-rule, by-rule, past-range, by-range, past-selector, by-selector}
+use Rattle.webgpu_copies.proofs.Records.{record-bounds}
+use Rattle.webgpu_copies.proofs.Textures.{texture-goes, texture-kept, texture-bounds}
 
 -- ---- tests
 
@@ -87,7 +92,7 @@ range-by m k v n h g = by-range TexturePlanned X.Refused (λ r. GivesTexturePlan
 along : (a b : TexturePlanned) → a ≡ b → GivesTexturePlan a → GivesTexturePlan b
 along a b e g = (g .0, sym e ∙ g .1)
 
--- ---- rules whose answer the hypotheses settle
+-- ---- the selectors
 
 abbrev chosenFor : TextureSide → ℕ
 chosenFor s = chosenAspects (s .texture .format) (s .view .aspect)
@@ -95,30 +100,34 @@ chosenFor s = chosenAspects (s .texture .format) (s .view .aspect)
 abbrev baseFor : TextureSide → TextureCopyBase
 baseFor s = baseOf (s .view) (s .texture) (chosenFor s)
 
-selector-goes : (s : TextureSide) (size : Extent3d) → SideReached s size → selectorChecked (s .view) (s .texture) size ≡ S.GoOn (selectorOf (s .view) (s .texture) size) (baseFor s)
-unfolding selectorChecked selectedOf
-selector-goes s size r = goes-past SelectorChecked (eqb (chosenFor s) 0) (S.Refused (E.InvalidTextureAspect (s .texture .format) (s .view .aspect))) (S.GoOn (selectorOf (s .view) (s .texture) size) (baseFor s)) (r .in-standard .chosen)
+selected : (s : TextureSide) (size : Extent3d) (k : TextureCopyBase → TexturePlanned) → GivesTexturePlan (after-selector (selectorChecked (s .view) (s .texture) size) X.Refused k) → (eqb (chosenFor s) 0 ≡ false) × GivesTexturePlan (k (baseFor s))
+selected s size k g = past-selector TexturePlanned X.Refused (λ r. GivesTexturePlan r) (s .view) (s .texture) size k no-plan g
 
-selected : (s : TextureSide) (size : Extent3d) → SideReached s size → (k : TextureCopyBase → TexturePlanned) → after-selector (selectorChecked (s .view) (s .texture) size) X.Refused k ≡ k (baseFor s)
-unfolding after-selector
-selected s size r k = rw (selector-goes s size r)
+select : (s : TextureSide) (size : Extent3d) (k : TextureCopyBase → TexturePlanned) → eqb (chosenFor s) 0 ≡ false → GivesTexturePlan (k (baseFor s)) → GivesTexturePlan (after-selector (selectorChecked (s .view) (s .texture) size) X.Refused k)
+select s size k e g = by-selector TexturePlanned X.Refused (λ r. GivesTexturePlan r) (s .view) (s .texture) size k e g
 
--- the source is no planar format, so nothing is split
+-- every format of the standard has an aspect, and none is planar, so nothing is split
+computed : ℕ → Bool
+computed f = not (eqb (aspectsOf f) 0) && not (isMultiPlanar (removeSrgb f))
+
+all-computed : everyBelow computed 21 ≡ true
+unfolding computed aspectsOf isMultiPlanar removeSrgb rowOf formats
+all-computed = refl
+
+some-aspect : (f : ℕ) → Known f → eqb (aspectsOf f) 0 ≡ false
+unfolding computed
+some-aspect f k = not-true _ (both-true _ _ (at-below computed 21 all-computed f (below f k)) .0)
+
 no-planes : (format : ℕ) → isMultiPlanar (removeSrgb format) ≡ false → (aspect : TextureAspect) (to : ℕ) → isThis (aspectSpecificFormat (removeSrgb format) aspect) to ≡ false
 unfolding aspectSpecificFormat isThis stop-if
 no-planes format h aspect to = rw h
 
-planar-free : everyBelow (λ f. not (isMultiPlanar (removeSrgb f))) 21 ≡ true
-unfolding isMultiPlanar removeSrgb rowOf formats
-planar-free = refl
-
-module _ (src dst : TextureSide) (size : Extent3d) where
-  unsplit : SideReached src size → isPlaneSplit src dst ≡ false
-  unfolding isPlaneSplit
-  unsplit r =
-      let s = r .in-standard in
-      let below = below-nv12 (src .texture .format) (s .known) (s .no-planes) in
-      let none = not-true _ (at-below (λ f. not (isMultiPlanar (removeSrgb f))) 21 planar-free (src .texture .format) below) in
+module _ (src dst : TextureSide) (size : Extent3d) (k : Known (src .texture .format)) (l : Known (dst .texture .format)) where
+  unsplit : isPlaneSplit src dst ≡ false
+  unfolding isPlaneSplit computed
+  unsplit =
+      let f = src .texture .format in
+      let none = not-true _ (both-true (not (eqb (aspectsOf f) 0)) (not (isMultiPlanar (removeSrgb f))) (at-below computed 21 all-computed f (below f k)) .1) in
       no-planes (src .texture .format) none (src .view .aspect) (removeSrgb (dst .texture .format))
 
   plane-goes : planeChecked false src size ≡ C.GoOn
@@ -128,60 +137,81 @@ module _ (src dst : TextureSide) (size : Extent3d) where
   abbrev layers : ℕ
   layers = arrayLayerCount (src .texture) size
 
-  -- one texture's parts are disjoint exactly where 11 is not given
-  within-of : (same : Bool) → (same ≡ true → dimensionOf (src .texture .dimension) ≡ D2) → withinOne same src dst layers ≡ C.GoOn → same ≡ true → Disjoint (src .texture) (src .view) (dst .view) size
-  unfolding withinOne stop-if
-  within-of true two g e = same-texture (src .texture) (src .view) (dst .view) size (two refl) .0 g
-  within-of false two g e = let z : _≡_ {A = ℕ} 0 1 = cc in absurd (omega arith)
+  -- the layers that the rule is handed
+  layers-are : layers ≡ layersOf (dimensionOf (src .texture .dimension)) (size .«depth_or_array_layers»)
+  unfolding arrayLayerCount
+  layers-are = same (levels.dimensionOf (src .texture .dimension)) ∙ ap (λ d. layersOf d (size .«depth_or_array_layers»)) (dimension-is (src .texture .dimension))
+    where
+      same : (d : TextureDimension) → planned.layersOf d (size .«depth_or_array_layers») ≡ layersOf d (size .«depth_or_array_layers»)
+      same D1 = refl
+      same D2 = refl
+      same D3 = refl
 
-  within-by : (same : Bool) → (same ≡ true → dimensionOf (src .texture .dimension) ≡ D2) → (same ≡ true → Disjoint (src .texture) (src .view) (dst .view) size) → withinOne same src dst layers ≡ C.GoOn
-  unfolding withinOne stop-if
-  within-by true two apart = same-texture (src .texture) (src .view) (dst .view) size (two refl) .1 (apart refl)
-  within-by false two apart = refl
+  abbrev Within : Type 0
+  Within = AllowsWithin (src .texture) (src .view) (dst .view) size
 
-  -- ---- the checks that are left
+  within-is : sameTextureChecked (src .view) (dst .view) (src .texture .format) layers ≡ C.GoOn → Within
+  within-is e = rw layers-are at e
+
+  -- 11 is not given exactly where the texture is another, or the rule goes on
+  within-of : (same : Bool) → withinOne same src dst layers ≡ C.GoOn → same ≡ true → Within
+  unfolding withinOne stop-if
+  within-of true g e = within-is g
+  within-of false g e = opposite false e refl
+
+  within-by : (same : Bool) → (same ≡ true → Within) → withinOne same src dst layers ≡ C.GoOn
+  unfolding withinOne stop-if
+  within-by true w = rw layers-are (w refl)
+  within-by false w = refl
+
+  -- ---- the checks
 
   record Passes (same : Bool) : Type 0 where
+    src-bounds : textureInBounds (src .texture) ≡ true
+    dst-bounds : textureInBounds (dst .texture) ≡ true
     formats : formatsDiffer src dst ≡ false
     from : GoesOn (rangeChecked (src .view) (src .texture) Source size)
     to : GoesOn (rangeChecked (dst .view) (dst .texture) Destination size)
-    within : withinOne same src dst layers ≡ C.GoOn
+    within : same ≡ true → Within
     src-aspects : chosenFor src ≡ aspectsOf (src .texture .format)
     dst-aspects : chosenFor dst ≡ aspectsOf (dst .texture .format)
     samples : src .texture .«sample_count» ≡ dst .texture .«sample_count»
-    src-usage : holds (src .texture .usage .0) 1 ≡ true
-    dst-usage : holds (dst .texture .usage .0) 2 ≡ true
+    src-usage : Has (src .texture .usage .0) 1
+    dst-usage : Has (dst .texture .usage .0) 2
 
-  compatible : (r : SideReached src size) → SideReached dst size → not (formatsDiffer src dst) ≡ copyCompatible (src .texture .format) (dst .texture .format)
+  compatible : not (formatsDiffer src dst) ≡ copyCompatible (src .texture .format) (dst .texture .format)
   unfolding formatsDiffer
-  compatible r q =
+  compatible =
       not-not (eqb (removeSrgb (src .texture .format)) (removeSrgb (dst .texture .format)))
-      ∙ compatible-formats (src .texture .format) (dst .texture .format) (r .in-standard .known) (q .in-standard .known)
+      ∙ compatible-formats (src .texture .format) (dst .texture .format) k l
 
-  module _ (same : Bool) (h : TexturesReached same src dst size) where
-    standard-of : Passes same → CopyTextureToTexture same (src .texture) (dst .texture) (src .view) (dst .view) size
-    standard-of p =
+  module _ (reading : Reading) (whole : (Excepted reading (src .texture) (src .view) size ⊎ Excepted reading (dst .texture) (dst .view) size) → ⊥) where
+    rules-of : {same : Bool} → Passes same → TextureCopyRules reading (src .texture) (dst .texture) (src .view) (dst .view) size
+    rules-of p =
         record {
-          src-part = ranges (src .view) (src .texture) Source size (h .source .all-layers) .0 (p .from);
-          dst-part = ranges (dst .view) (dst .texture) Destination size (h .destination .all-layers) .0 (p .to);
+          src-valid = ranges reading (src .view) (src .texture) Source size k (λ x. whole (inl x)) .0 (p .from);
+          dst-valid = ranges reading (dst .view) (dst .texture) Destination size l (λ x. whole (inr x)) .0 (p .to);
           src-usage = p .src-usage;
           dst-usage = p .dst-usage;
           samples = p .samples;
-          compatible = sym (compatible (h .source) (h .destination)) ∙ not-yes _ (p .formats);
-          src-aspects = all-aspects _ _ (h .source .in-standard) .0 (p .src-aspects);
-          dst-aspects = all-aspects _ _ (h .destination .in-standard) .0 (p .dst-aspects);
-          disjoint = within-of same (h .two-dimensions) (p .within);
+          compatible = sym compatible ∙ not-yes _ (p .formats);
+          src-aspects = all-aspects _ _ k .0 (p .src-aspects);
+          dst-aspects = all-aspects _ _ l .0 (p .dst-aspects);
         }
 
-    passes-of : CopyTextureToTexture same (src .texture) (dst .texture) (src .view) (dst .view) size → Passes same
-    passes-of v =
+    passes-of :
+        (same : Bool) → (((TextureInBounds (src .texture) → ⊥) ⊎ (TextureInBounds (dst .texture) → ⊥)) → ⊥) → (same ≡ true → Within)
+        → TextureCopyRules reading (src .texture) (dst .texture) (src .view) (dst .view) size → Passes same
+    passes-of same bounds within v =
         record {
-          formats = not-true _ (compatible (h .source) (h .destination) ∙ v .compatible);
-          from = ranges (src .view) (src .texture) Source size (h .source .all-layers) .1 (v .src-part);
-          to = ranges (dst .view) (dst .texture) Destination size (h .destination .all-layers) .1 (v .dst-part);
-          within = within-by same (h .two-dimensions) (v .disjoint);
-          src-aspects = all-aspects _ _ (h .source .in-standard) .1 (v .src-aspects);
-          dst-aspects = all-aspects _ _ (h .destination .in-standard) .1 (v .dst-aspects);
+          src-bounds = texture-bounds (src .texture) (λ x. bounds (inl x));
+          dst-bounds = texture-bounds (dst .texture) (λ x. bounds (inr x));
+          formats = not-true _ (compatible ∙ v .compatible);
+          from = ranges reading (src .view) (src .texture) Source size k (λ x. whole (inl x)) .1 (v .src-valid);
+          to = ranges reading (dst .view) (dst .texture) Destination size l (λ x. whole (inr x)) .1 (v .dst-valid);
+          within = within;
+          src-aspects = all-aspects _ _ k .1 (v .src-aspects);
+          dst-aspects = all-aspects _ _ l .1 (v .dst-aspects);
           samples = v .samples;
           src-usage = v .src-usage;
           dst-usage = v .dst-usage;
@@ -189,7 +219,14 @@ module _ (src dst : TextureSide) (size : Extent3d) where
 
 -- ---- the order of checks
 
-module _ (i j : ℕ) (src dst : TextureSide) (size : Extent3d) (h : TexturesReached (eqb i j) src dst size) where
+bounds-of : (i j : ℕ) (src dst : TextureSide) (size : Extent3d) → GivesTexturePlan (textureToTexture i src j dst size) → TextureInBounds (src .texture) × TextureInBounds (dst .texture)
+unfolding textureToTexture
+bounds-of i j src dst size g =
+    let s = passed (textureChecked (src .texture) Source) _ g in
+    let d = passed (textureChecked (dst .texture) Destination) _ (s .1) in
+    (texture-kept (src .texture) Source (s .0), texture-kept (dst .texture) Destination (d .0))
+
+module _ (i j : ℕ) (src dst : TextureSide) (size : Extent3d) (k : Known (src .texture .format)) (l : Known (dst .texture .format)) where
   abbrev incompatible : TransferError
   incompatible = E.TextureFormatsNotCopyCompatible (src .texture .format) (dst .texture .format)
 
@@ -197,14 +234,14 @@ module _ (i j : ℕ) (src dst : TextureSide) (size : Extent3d) (h : TexturesReac
   sampled = E.SampleCountNotEqual (src .texture .«sample_count») (dst .texture .«sample_count»)
 
   unsplit-copy : rangedCopy (eqb i j) (isPlaneSplit src dst) src dst size ≡ rangedCopy (eqb i j) false src dst size
-  unsplit-copy = ap (λ s. rangedCopy (eqb i j) s src dst size) (unsplit src dst size (h .source))
+  unsplit-copy = ap (λ s. rangedCopy (eqb i j) s src dst size) (unsplit src dst size k l)
 
   differ : formatsDiffer src dst ≡ (formatsDiffer src dst && not (isPlaneSplit src dst))
-  differ = rw (unsplit src dst size (h .source)) (sym (and-true (formatsDiffer src dst)))
+  differ = rw (unsplit src dst size k l) (sym (and-true (formatsDiffer src dst)))
 
-  planned : GivesTexturePlan (textureToTexture i src j dst size) → Passes src dst size (eqb i j)
+  passes : GivesTexturePlan (textureToTexture i src j dst size) → Passes src dst size k l (eqb i j)
   unfolding textureToTexture rangedCopy selectedCopy usable baseOf
-  planned g =
+  passes g =
       let s = passed (textureChecked (src .texture) Source) _ g in
       let d = passed (textureChecked (dst .texture) Destination) _ (s .1) in
       let f = past (formatsDiffer src dst && not (isPlaneSplit src dst)) incompatible _ (d .1) in
@@ -212,47 +249,90 @@ module _ (i j : ℕ) (src dst : TextureSide) (size : Extent3d) (h : TexturesReac
       let to = ranged (rangeChecked (dst .view) (dst .texture) Destination size) _ (from .3) in
       let plane = passed (planeChecked false src size) _ (to .3) in
       let one = passed (withinOne (eqb i j) src dst (from .1)) _ (plane .1) in
-      let a = past (not (eqb (chosenFor src) (aspectsOf (src .texture .format)))) E.CopySrcMissingAspects _ (along _ _ (selected src size (h .source) _ ∙ selected dst size (h .destination) _) (one .1)) in
+      let x = selected src size _ (one .1) in
+      let y = selected dst size _ (x .1) in
+      let a = past (not (eqb (chosenFor src) (aspectsOf (src .texture .format)))) E.CopySrcMissingAspects _ (y .1) in
       let b = past (not (eqb (chosenFor dst) (aspectsOf (dst .texture .format)))) E.CopyDstMissingAspects _ (a .1) in
       let n = past (not (eqb (src .texture .«sample_count») (dst .texture .«sample_count»))) sampled _ (b .1) in
       let u = past (not (holds (src .texture .usage .0) 1)) (E.MissingTextureUsage Source) _ (n .1) in
       let w = past (not (holds (dst .texture .usage .0) 2)) (E.MissingTextureUsage Destination) _ (u .1) in
       let count = every-range (src .view) (src .texture) Source size .went-on (from .0) (from .1) (from .2) .2 in
+      let b′ = bounds-of i j src dst size g in
       record {
+        src-bounds = record-bounds .textures (src .texture) .1 (b′ .0);
+        dst-bounds = record-bounds .textures (dst .texture) .1 (b′ .1);
         formats = differ ∙ f .0;
         from = (from .0, from .1, from .2);
         to = (to .0, to .1, to .2);
-        within = rw count (one .0);
+        within = within-of src dst size k l (eqb i j) (rw count (one .0));
         src-aspects = eqb-true _ _ (not-false _ (a .0));
         dst-aspects = eqb-true _ _ (not-false _ (b .0));
         samples = eqb-true _ _ (not-false _ (n .0));
-        src-usage = not-false _ (u .0);
-        dst-usage = not-false _ (w .0);
+        src-usage = flag-of (src .texture .usage .0) 1 (u .0);
+        dst-usage = flag-of (dst .texture .usage .0) 2 (w .0);
       }
 
-  plan : Passes src dst size (eqb i j) → GivesTexturePlan (textureToTexture i src j dst size)
+  plan : Passes src dst size k l (eqb i j) → GivesTexturePlan (textureToTexture i src j dst size)
   unfolding textureToTexture rangedCopy selectedCopy usable baseOf
   plan p =
       let n = p .from .1 in
       let count = every-range (src .view) (src .texture) Source size .went-on (p .from .0) n (p .from .2) .2 in
-      pass (textureChecked (src .texture) Source) _ (texture-goes (src .texture) Source (h .source .bounds))
-      (pass (textureChecked (dst .texture) Destination) _ (texture-goes (dst .texture) Destination (h .destination .bounds))
+      pass (textureChecked (src .texture) Source) _ (texture-goes (src .texture) Source (p .src-bounds))
+      (pass (textureChecked (dst .texture) Destination) _ (texture-goes (dst .texture) Destination (p .dst-bounds))
       (by (formatsDiffer src dst && not (isPlaneSplit src dst)) incompatible _ (sym differ ∙ p .formats)
       (along _ _ (sym unsplit-copy)
       (range-by (rangeChecked (src .view) (src .texture) Source size) _ (p .from .0) n (p .from .2)
       (range-by (rangeChecked (dst .view) (dst .texture) Destination size) _ (p .to .0) (p .to .1) (p .to .2)
-      (pass (planeChecked false src size) _ (plane-goes src dst size)
-      (pass (withinOne (eqb i j) src dst n) _ (rw (← count) (p .within))
-      (along _ _ (sym (selected src size (h .source) _ ∙ selected dst size (h .destination) _))
+      (pass (planeChecked false src size) _ (plane-goes src dst size k l)
+      (pass (withinOne (eqb i j) src dst n) _ (rw (← count) (within-by src dst size k l (eqb i j) (p .within)))
+      (select src size _ (rw (p .src-aspects) (some-aspect (src .texture .format) k))
+      (select dst size _ (rw (p .dst-aspects) (some-aspect (dst .texture .format) l))
       (by (not (eqb (chosenFor src) (aspectsOf (src .texture .format)))) E.CopySrcMissingAspects _ (not-no _ (eq-eqb _ _ (p .src-aspects)))
       (by (not (eqb (chosenFor dst) (aspectsOf (dst .texture .format)))) E.CopyDstMissingAspects _ (not-no _ (eq-eqb _ _ (p .dst-aspects)))
       (by (not (eqb (src .texture .«sample_count») (dst .texture .«sample_count»))) sampled _ (not-no _ (eq-eqb _ _ (p .samples)))
-      (by (not (holds (src .texture .usage .0) 1)) (E.MissingTextureUsage Source) _ (not-no _ (p .src-usage))
-      (by (not (holds (dst .texture .usage .0) 2)) (E.MissingTextureUsage Destination) _ (not-no _ (p .dst-usage))
-      (planOf src dst size (p .from .0) (p .to .0) n (baseFor src) (baseFor dst), refl))))))))))))))
+      (by (not (holds (src .texture .usage .0) 1)) (E.MissingTextureUsage Source) _ (flag-by (src .texture .usage .0) 1 (p .src-usage))
+      (by (not (holds (dst .texture .usage .0) 2)) (E.MissingTextureUsage Destination) _ (flag-by (dst .texture .usage .0) 2 (p .dst-usage))
+      (planOf src dst size (p .from .0) (p .to .0) n (baseFor src) (baseFor dst), refl)))))))))))))))
 
-pub textures-agree : TextureToTexture
-textures-agree i j src dst size h = (
-  λ g. standard-of src dst size (eqb i j) h (planned i j src dst size h g),
-  λ v. plan i j src dst size h (passes-of src dst size (eqb i j) h v),
+-- ---- the claims
+
+module _ (i j : ℕ) (src dst : TextureSide) (size : Extent3d) (k : Known (src .texture .format)) (l : Known (dst .texture .format)) where
+  -- one texture's parts are disjoint exactly where the rule goes on, but for the exception
+  disjoint : (OntoItself i j src dst size → ⊥) → (eqb i j ≡ true → Within src dst size k l) → eqb i j ≡ true → Disjoint (src .texture) (src .view) (dst .view) size
+  disjoint other w e = same-texture (src .texture) (src .view) (dst .view) size k (λ m. other (e, m)) .0 (w e)
+
+  within : (OntoItself i j src dst size → ⊥) → (eqb i j ≡ true → Disjoint (src .texture) (src .view) (dst .view) size) → eqb i j ≡ true → Within src dst size k l
+  within other apart e = same-texture (src .texture) (src .view) (dst .view) size k (λ m. other (e, m)) .1 (apart e)
+
+pub textures-agree : (reading : Reading) → Textures reading
+textures-agree reading i j src dst size k l bounds other whole = (
+  λ g. let p = passes i j src dst size k l g in record { rules = rules-of src dst size k l reading whole p; disjoint = disjoint i j src dst size k l other (p .within) },
+  λ v. plan i j src dst size k l (passes-of src dst size k l reading whole (eqb i j) bounds (within i j src dst size k l other (v .disjoint)) (v .rules)),
 )
+
+nothing : (⊥ ⊎ ⊥) → ⊥
+nothing (inl x) = x
+nothing (inr x) = x
+
+onto-itself :
+    (i j : ℕ) (src dst : TextureSide) (size : Extent3d) → Known (src .texture .format) → Known (dst .texture .format)
+    → (OutOfBounds i j src dst size → ⊥) → OntoItself i j src dst size
+    → (PlansTextures i j src dst size ↔ Rules i j src dst size OneLayer)
+    × ((reading : Reading) → StandardTextures i j src dst size reading → ⊥)
+onto-itself i j src dst size k l bounds (e, m) =
+    let parts = same-texture-parts (src .texture) (src .view) (dst .view) size k m in (
+      (λ g. rules-of src dst size k l OneLayer nothing (passes i j src dst size k l g), λ v. plan i j src dst size k l (passes-of src dst size k l OneLayer nothing (eqb i j) bounds (λ s. parts .0) v)),
+      λ reading v. parts .1 (v .disjoint e),
+    )
+
+some-layers :
+    (i j : ℕ) (src dst : TextureSide) (size : Extent3d) → LayersLeft i j src dst size WithLayers → StandardTextures i j src dst size WithLayers → ⊥
+some-layers i j src dst size (inl x) v = ranges-part (src .texture) (src .view) size x (v .rules .src-valid)
+some-layers i j src dst size (inr x) v = ranges-part (dst .texture) (dst .view) size x (v .rules .dst-valid)
+
+out-of-bounds : (i j : ℕ) (src dst : TextureSide) (size : Extent3d) → OutOfBounds i j src dst size → PlansTextures i j src dst size → ⊥
+out-of-bounds i j src dst size (inl out) g = out (bounds-of i j src dst size g .0)
+out-of-bounds i j src dst size (inr out) g = out (bounds-of i j src dst size g .1)
+
+pub textures-part : TexturesPart
+textures-part = record { bounds = out-of-bounds; onto-itself = onto-itself; layers = some-layers }

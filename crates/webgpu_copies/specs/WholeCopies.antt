@@ -1,54 +1,65 @@
--- Whole copies: the planner answers a plan exactly where the standard's rules hold. An exception is a named hypothesis.
+-- Whole copies: the planner answers a plan exactly where the standard's rules hold. An exception is a hypothesis in the standard's
+-- words or document 01's, and no wider than the difference: a claim says that the two part wherever it holds.
 use mathlib.Core.Path.{_≡_}
 use mathlib.Core.Bool.{Bool, true, false}
-use mathlib.Core.Logic.{_↔_}
-use Prim.Native.Nat.{ℕ, _/_}
+use mathlib.Core.Logic.{_⊎_, _↔_}
+use Prim.Native.Nat.{ℕ}
 use lib.Dec.{eqb}
 use Rattle.measures.specs.declared.Extent3d.{Extent3d}
 use Rattle.measures.specs.declared.OptionU64.{OptionU64}
-use Rattle.flags.specs.Flags.{holds}
-use Rattle.formats.specs.Sheet.{blockWidth, blockHeight}
+use Rattle.formats.specs.declared.TextureAspect.the-variants.{All}
 use Rattle.records.specs.declared.Buffer.{Buffer}
 use Rattle.records.specs.declared.Device.{Device}
 use Rattle.records.specs.declared.Texture.{Texture}
 use Rattle.records.specs.declared.TexelCopyTextureInfo.{TexelCopyTextureInfo}
 use Rattle.records.specs.declared.TexelCopyBufferLayout.{TexelCopyBufferLayout}
-use Rattle.records.specs.Bounds.{bufferInBounds, textureInBounds}
-use Rattle.levels.specs.declared.TextureDimension.the-variants.{D2}
-use Rattle.levels.specs.Level.{dimensionOf}
-use Rattle.linear.specs.Linear.{blockBytes}
 use Rattle.buffer_copies.specs.declared.BufferPlan.{BufferPlan}
 use Rattle.buffer_copies.specs.declared.BufferPlanned.{BufferPlanned}
 use Rattle.buffer_copies.specs.declared.BufferPlanned.the-variants as B
-use Rattle.buffer_copies.specs.BufferCopies.{lacksIndexFact, bufferToBuffer}
 use Rattle.buffer_texture_plans.specs.declared.BufferTexturePlan.{BufferTexturePlan}
 use Rattle.buffer_texture.specs.declared.BufferTexturePlanned.{BufferTexturePlanned}
 use Rattle.buffer_texture.specs.declared.BufferTexturePlanned.the-variants as T
-use Rattle.buffer_texture.specs.Plan.{lacksDepthFact, bufferToTexture, textureToBuffer}
 use Rattle.texture_plans.specs.declared.TextureSide.{TextureSide}
 use Rattle.texture_plans.specs.declared.TexturePlan.{TexturePlan}
 use Rattle.texture_copies.specs.declared.TexturePlanned.{TexturePlanned}
 use Rattle.texture_copies.specs.declared.TexturePlanned.the-variants as X
-use Rattle.texture_copies.specs.Plan.{textureToTexture}
+use Rattle.webgpu.specs.Formats.{Known, isDepthOrStencil}
 use Rattle.webgpu.specs.WebGpu as W
-use Rattle.webgpu.specs.Agreement as A
+use Rattle.webgpu.specs.Agreement.{Excepted, SomeLayers, InStandard, Fits32, MovesWithin}
+use Rattle.webgpu_copies.specs.Bounds.{BufferInBounds, TextureInBounds}
+-- what is judged
+use Rattle.buffer_copies.specs.BufferCopies.{bufferToBuffer}
+use Rattle.buffer_texture.specs.Plan.{bufferToTexture, textureToBuffer}
+use Rattle.texture_copies.specs.Plan.{textureToTexture}
 
 -- ---- buffer to buffer
 
 abbrev pub GivesBufferPlan : BufferPlanned → Type 0
 GivesBufferPlan r = (p : BufferPlan) × (r ≡ B.Plan p)
 
--- exceptions: the records' bounds are ours, and the index fact is wgpu's own
-pub record BuffersReached (device : Device) (src dst : Buffer) : Type 0 where
-  pub src-bounds : bufferInBounds src ≡ true
-  pub dst-bounds : bufferInBounds dst ≡ true
-  pub index-fact : lacksIndexFact device (src .usage .0) (dst .usage .0) ≡ false
+-- exception, 34: without the fact an INDEX buffer, where either buffer has VERTEX, UNIFORM, INDIRECT or STORAGE
+abbrev pub Shared : Buffer → Type 0
+Shared b = W.Has (b .usage .0) 32 ⊎ (W.Has (b .usage .0) 64 ⊎ (W.Has (b .usage .0) 256 ⊎ W.Has (b .usage .0) 128))
+
+pub record IndexRestricted (device : Device) (src dst : Buffer) : Type 0 where
+  pub fact : device .«unrestricted_index_buffer» ≡ false
+  pub index : W.Has (src .usage .0) 16 ⊎ W.Has (dst .usage .0) 16
+  pub shared : Shared src ⊎ Shared dst
+
+-- what the planner refuses beyond the standard: records out of document 01's bounds, and 34
+abbrev pub BuffersExcepted : Device → Buffer → Buffer → Type 0
+BuffersExcepted device src dst = (BufferInBounds src → ⊥) ⊎ ((BufferInBounds dst → ⊥) ⊎ IndexRestricted device src dst)
 
 abbrev pub BufferToBuffer : Type 0
 BufferToBuffer =
-    (device : Device) (i j : ℕ) (src dst : Buffer) (srcOffset dstOffset : ℕ) (size : OptionU64) → BuffersReached device src dst
+    (device : Device) (i j : ℕ) (src dst : Buffer) (srcOffset dstOffset : ℕ) (size : OptionU64) → (BuffersExcepted device src dst → ⊥)
     → GivesBufferPlan (bufferToBuffer device i src srcOffset j dst dstOffset size)
     ↔ W.CopyBufferToBuffer (eqb i j) src dst srcOffset dstOffset (W.copySizeOf src srcOffset size)
+
+abbrev pub BufferToBufferParts : Type 0
+BufferToBufferParts =
+    (device : Device) (i j : ℕ) (src dst : Buffer) (srcOffset dstOffset : ℕ) (size : OptionU64) → BuffersExcepted device src dst
+    → GivesBufferPlan (bufferToBuffer device i src srcOffset j dst dstOffset size) → ⊥
 
 -- ---- between a buffer and a texture
 
@@ -68,71 +79,97 @@ planned false c = bufferToTexture (c .device) (c .buffer) (c .layout) (c .textur
 abbrev pub GivesPlan : BufferTexturePlanned → Type 0
 GivesPlan r = (p : BufferTexturePlan) × (r ≡ T.Plan p)
 
--- COPY_DST where it is written, COPY_SRC where it is read
-abbrev pub bufferUsage : Bool → ℕ
-bufferUsage true = 8
-bufferUsage false = 4
+abbrev pub StandardCopy : W.Reading → Bool → Copy → Type 0
+StandardCopy reading reads c = W.CopyBufferTexture reading reads (c .buffer) (c .layout) (c .texture) (c .view) (c .size)
 
-abbrev pub textureUsage : Bool → ℕ
-textureUsage true = 1
-textureUsage false = 2
+-- what is compared: formats of the standard, and figures as their 32-bit fields hold them
+pub record Compared (c : Copy) : Type 0 where
+  pub known : Known (c .texture .format)
+  pub bytes-field : Fits32 (c .layout .«bytes_per_row»)
+  pub rows-field : Fits32 (c .layout .«rows_per_image»)
 
--- "copyBufferToTexture()" and "copyTextureToBuffer()": every rule of the standard on the copy
-pub record StandardCopy (reads : Bool) (c : Copy) : Type 0 where
-  pub buffer-usage : holds (c .buffer .usage .0) (bufferUsage reads) ≡ true
-  pub texture-usage : holds (c .texture .usage .0) (textureUsage reads) ≡ true
-  pub part : W.TexelCopyTexture (c .texture) (c .view) (c .size)
-  pub suits : W.TextureBufferCopy reads true (c .texture) (c .view .aspect) (blockBytes (c .texture .format) (c .view .aspect)) (c .layout)
-  pub linear :
-      W.LinearTextureData (c .layout) (c .size .width / blockWidth (c .texture .format)) (c .size .height / blockHeight (c .texture .format))
-      (blockBytes (c .texture .format) (c .view .aspect)) (c .size .«depth_or_array_layers») (c .buffer .size)
+-- exception, 34: a depth-or-stencil format without the fact
+abbrev pub DepthRestricted : Copy → Type 0
+DepthRestricted c = (isDepthOrStencil (c .texture .format) ≡ true) × (c .device .«depth_texture_and_buffer_copies» ≡ false)
 
--- exceptions, and the widths of fields
-pub record Reached (c : Copy) : Type 0 where
-  -- the records' bounds are ours
-  pub buffer-bounds : bufferInBounds (c .buffer) ≡ true
-  pub texture-bounds : textureInBounds (c .texture) ≡ true
-  -- the depth fact is wgpu's own
-  pub depth-fact : lacksDepthFact (c .device) (c .texture .format) ≡ false
-  -- a depth-stencil or multisampled texture has every layer copied, which the Rust does not ask
-  pub all-layers : A.AllLayers (c .texture) (c .view) (c .size)
-  -- NV12 is not in the standard, and an aspect that the format lacks is refused by 12
-  pub in-standard : A.InStandard (c .texture .format) (c .view .aspect)
-  -- the layout's figures as their 32-bit fields hold them
-  pub bytes-field : A.Fits32 (c .layout .«bytes_per_row»)
-  pub rows-field : A.Fits32 (c .layout .«rows_per_image»)
+-- exception, 12: a color format with an aspect that it lacks
+abbrev pub AspectLacking : Copy → Type 0
+AspectLacking c = (isDepthOrStencil (c .texture .format) ≡ false) × (c .view .aspect ≡ All → ⊥)
 
-abbrev pub Agrees : Bool → Type 0
-Agrees reads = (c : Copy) → Reached c → GivesPlan (planned reads c) ↔ StandardCopy reads c
+-- what the planner refuses beyond the standard
+abbrev pub CopyExcepted : Copy → Type 0
+CopyExcepted c = (BufferInBounds (c .buffer) → ⊥) ⊎ ((TextureInBounds (c .texture) → ⊥) ⊎ (DepthRestricted c ⊎ AspectLacking c))
 
+abbrev pub Agrees : W.Reading → Bool → Type 0
+Agrees reading reads =
+    (c : Copy) → Compared c → (CopyExcepted c → ⊥) → (Excepted reading (c .texture) (c .view) (c .size) → ⊥)
+    → GivesPlan (planned reads c) ↔ StandardCopy reading reads c
+
+-- the whole size of a texture that is copied whole is that of one layer: nothing more is excepted
 abbrev pub UploadAgrees : Type 0
-UploadAgrees = Agrees false
+UploadAgrees = Agrees W.OneLayer false
 
 abbrev pub DownloadAgrees : Type 0
-DownloadAgrees = Agrees true
+DownloadAgrees = Agrees W.OneLayer true
+
+-- it is that of all layers: some of them are excepted
+abbrev pub UploadAgreesWithLayers : Type 0
+UploadAgreesWithLayers = Agrees W.WithLayers false
+
+abbrev pub DownloadAgreesWithLayers : Type 0
+DownloadAgreesWithLayers = Agrees W.WithLayers true
+
+-- where an exception holds, one side refuses: the planner, or of some layers the standard
+pub record CopiesPart : Type 0 where
+  pub planner : (reads : Bool) (c : Copy) → Known (c .texture .format) → CopyExcepted c → GivesPlan (planned reads c) → ⊥
+  pub standard : (reads : Bool) (c : Copy) → SomeLayers (c .texture) (c .view) (c .size) → StandardCopy W.WithLayers reads c → ⊥
 
 -- ---- texture to texture
 
 abbrev pub GivesTexturePlan : TexturePlanned → Type 0
 GivesTexturePlan r = (p : TexturePlan) × (r ≡ X.Plan p)
 
--- exceptions on one side
-pub record SideReached (side : TextureSide) (size : Extent3d) : Type 0 where
-  -- the records' bounds are ours
-  pub bounds : textureInBounds (side .texture) ≡ true
-  -- a depth-stencil or multisampled texture has every layer copied, which the Rust does not ask
-  pub all-layers : A.AllLayers (side .texture) (side .view) size
-  -- NV12 and its planes are not in the standard, and an aspect that the format lacks is refused by 12
-  pub in-standard : A.InStandard (side .texture .format) (side .view .aspect)
+module _ (i j : ℕ) (src dst : TextureSide) (size : Extent3d) where
+  abbrev pub PlansTextures : Type 0
+  PlansTextures = GivesTexturePlan (textureToTexture i src j dst size)
 
-pub record TexturesReached (same : Bool) (src dst : TextureSide) (size : Extent3d) : Type 0 where
-  pub source : SideReached src size
-  pub destination : SideReached dst size
-  -- a 1D or 3D texture onto itself: the standard has one subresource for a level, the Rust compares z
-  pub two-dimensions : same ≡ true → dimensionOf (src .texture .dimension) ≡ D2
+  abbrev pub Rules : W.Reading → Type 0
+  Rules reading = W.TextureCopyRules reading (src .texture) (dst .texture) (src .view) (dst .view) size
+
+  abbrev pub StandardTextures : W.Reading → Type 0
+  StandardTextures reading = W.CopyTextureToTexture reading (eqb i j) (src .texture) (dst .texture) (src .view) (dst .view) size
+
+  -- exception of the planner: records out of document 01's bounds
+  abbrev pub OutOfBounds : Type 0
+  OutOfBounds = (TextureInBounds (src .texture) → ⊥) ⊎ (TextureInBounds (dst .texture) → ⊥)
+
+  -- exception of the standard: one level of a 1D or 3D texture onto itself at another z
+  abbrev pub OntoItself : Type 0
+  OntoItself = (eqb i j ≡ true) × MovesWithin (src .texture) (src .view) (dst .view)
+
+  -- exception of the standard, read with layers
+  abbrev pub LayersLeft : W.Reading → Type 0
+  LayersLeft reading = Excepted reading (src .texture) (src .view) size ⊎ Excepted reading (dst .texture) (dst .view) size
+
+-- formats of the standard; an aspect that a format lacks is refused by both
+abbrev pub Textures : W.Reading → Type 0
+Textures reading =
+    (i j : ℕ) (src dst : TextureSide) (size : Extent3d) → Known (src .texture .format) → Known (dst .texture .format)
+    → (OutOfBounds i j src dst size → ⊥) → (OntoItself i j src dst size → ⊥) → (LayersLeft i j src dst size reading → ⊥)
+    → PlansTextures i j src dst size ↔ StandardTextures i j src dst size reading
 
 abbrev pub TextureToTexture : Type 0
-TextureToTexture =
-    (i j : ℕ) (src dst : TextureSide) (size : Extent3d) → TexturesReached (eqb i j) src dst size
-    → GivesTexturePlan (textureToTexture i src j dst size)
-    ↔ W.CopyTextureToTexture (eqb i j) (src .texture) (dst .texture) (src .view) (dst .view) size
+TextureToTexture = Textures W.OneLayer
+
+abbrev pub TextureToTextureWithLayers : Type 0
+TextureToTextureWithLayers = Textures W.WithLayers
+
+pub record TexturesPart : Type 0 where
+  pub bounds : (i j : ℕ) (src dst : TextureSide) (size : Extent3d) → OutOfBounds i j src dst size → PlansTextures i j src dst size → ⊥
+  -- onto itself at another z: the planner goes by every rule but the last, by which the standard refuses
+  pub onto-itself :
+      (i j : ℕ) (src dst : TextureSide) (size : Extent3d) → Known (src .texture .format) → Known (dst .texture .format)
+      → (OutOfBounds i j src dst size → ⊥) → OntoItself i j src dst size
+      → (PlansTextures i j src dst size ↔ Rules i j src dst size W.OneLayer)
+      × ((reading : W.Reading) → StandardTextures i j src dst size reading → ⊥)
+  pub layers : (i j : ℕ) (src dst : TextureSide) (size : Extent3d) → LayersLeft i j src dst size W.WithLayers → StandardTextures i j src dst size W.WithLayers → ⊥

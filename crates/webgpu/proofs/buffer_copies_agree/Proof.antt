@@ -1,6 +1,6 @@
 -- `buffer_copies_agree` meets its contract.
 -- Assumes nothing.
-use Rattle.webgpu.proofs.Tables.{buffer-copies}
+use Rattle.webgpu.proofs.BufferCopies.{buffer-copies}
 use Rattle.webgpu.proofs.buffer_copies_agree.Statement.{statement}
 use Rattle.webgpu.proofs.buffer_copies_agree.Tie as tie
 

@@ -1,34 +1,35 @@
--- Formats, aspects and alignment against the standard's tables.
+-- Formats, aspects and alignment of copies with a buffer against the standard's tables.
 -- Assumes nothing.
 use mathlib.Core.Path.{_≡_, refl, sym, ap, _∙_}
-use mathlib.Core.Bool.{Bool, true, false, not, _&&_, _||_}
+use mathlib.Core.Bool.{Bool, true, false, not, _&&_, _||_, cond}
 use mathlib.Core.List.{List, [], _∷_}
 use Prim.Native.Nat.{ℕ, _%_, _<_}
 use native.Mathlib.Omega.{arith}
 use lib.Dec.{eqb, ltb}
 use lib.ListN.{length}
-use borrow.Author.Tests.{ltb-true, eqb-true, eqb-false, eq-eqb, ne-eqb, not-false}
+use borrow.Author.Tests.{ltb-true, eqb-true, eqb-false, eq-eqb, ne-eqb, not-true, not-false}
 use Rattle.checks.specs.Checks.{pick, every, stop-if}
 use Rattle.checks.proofs.Rules.{both-true, all-true, not-both, went-past, goes-past}
 use Rattle.checks.proofs.Tables.{everyBelow, at-below}
 use Rattle.measures.specs.declared.OptionU32.{OptionU32}
 use Rattle.measures.specs.declared.OptionU32.the-variants.{Given, Absent}
 use Rattle.measures.specs.Measure.{multiple, orElse}
-use Rattle.flags.specs.Flags.{holds, met, isOne}
+use Rattle.flags.specs.Flags.{isOne}
 use Rattle.formats.specs.declared.TextureAspect.{TextureAspect}
 use Rattle.formats.specs.declared.TextureAspect.the-variants.{All, StencilOnly, DepthOnly, Plane0, Plane1, Plane2}
-use Rattle.formats.specs.Sheet.{formats, rowOf, aspectsOf, isFormat, isDepthStencil, isMultiPlanar}
-use Rattle.formats.specs.Aspects.{askedOf, chosenAspects, bytesOf, blockCopySize}
+use Rattle.formats.specs.Sheet.{isDepthStencil}
+use Rattle.formats.specs.Aspects.{blockCopySize}
 use Rattle.refusals.specs.declared.TransferError.{TransferError}
 use Rattle.refusals.specs.declared.TransferError.the-variants as E
 use Rattle.refusals.specs.declared.Checked.{Checked}
 use Rattle.refusals.specs.declared.Checked.the-variants as C
 use Rattle.records.specs.declared.Texture.{Texture}
 use Rattle.records.specs.declared.TexelCopyBufferLayout.{TexelCopyBufferLayout}
-use Rattle.linear.specs.Linear.{blockBytes}
 use Rattle.format_rules.specs.Rules.{isDepthOnly, srcFormat, dstFormat, offsetAlignment, isUnalignedRow, layoutChecked, textureBufferCopy}
-use Rattle.webgpu.specs.WebGpu.{depthStencilFormats, inTable, aspectAllowed, AlignedLayout, TextureBufferCopy}
-use Rattle.webgpu.specs.Agreement.{formatRule, InStandard, BufferCopies}
+use Rattle.webgpu.specs.Formats.{Part, none, formats, formatOf, anyDepthOrStencil, isDepthOrStencil, named}
+use Rattle.webgpu.specs.WebGpu.{taken, validOne, bytesOfOne, blockBytes, AlignedLayout, TextureBufferCopy}
+use Rattle.webgpu.specs.Agreement.{bits, footprint, formatRule, InStandard, BufferCopies}
+use Rattle.webgpu.proofs.Rows.{same, same-is, below, row-of, taken-is}
 
 -- ---- the tables, by one test that is computed of every format and aspect
 
@@ -36,24 +37,24 @@ goesB : Checked → Bool
 goesB C.GoOn = true
 goesB (C.Refused e) = false
 
-isGivenB : OptionU32 → Bool
-isGivenB (Given n) = true
-isGivenB Absent = false
+-- a color format, and another aspect than all
+lacking : TextureAspect → ℕ → Bool
+lacking All format = false
+lacking StencilOnly format = not (isDepthOrStencil format)
+lacking DepthOnly format = not (isDepthOrStencil format)
+lacking Plane0 format = not (isDepthOrStencil format)
+lacking Plane1 format = not (isDepthOrStencil format)
+lacking Plane2 format = not (isDepthOrStencil format)
 
-abbrev pub same : Bool → Bool → Bool
-same true t = t
-same false t = not t
-
--- of an aspect that the format has: the format's rule and one aspect are what the standard allows, and but for depth-stencil a
--- block has bytes
+-- the format's rule and one aspect are what the standard allows, and but for depth-or-stencil a block has bytes
 agrees : Bool → TextureAspect → ℕ → Bool
 agrees reads aspect format =
-    eqb (chosenAspects format aspect) 0
-    || (same (goesB (formatRule reads format aspect) && isOne (chosenAspects format aspect)) (aspectAllowed reads format aspect)
-    && (isDepthStencil format || isGivenB (blockCopySize format aspect)))
+    lacking aspect format
+    || (same (goesB (formatRule reads format aspect) && isOne (bits (named (formatOf format) aspect))) (validOne reads (taken format aspect))
+    && (isDepthOrStencil format || not (eqb (bytesOfOne (named (formatOf format) aspect)) none)))
 
 all-agree : (reads : Bool) (aspect : TextureAspect) → everyBelow (agrees reads aspect) 21 ≡ true
-unfolding agrees goesB isGivenB formats rowOf aspectsOf isDepthStencil askedOf chosenAspects bytesOf blockCopySize met holds isOne stop-if srcFormat dstFormat isDepthOnly depthStencilFormats inTable aspectAllowed
+unfolding agrees lacking goesB isOne stop-if srcFormat dstFormat isDepthOnly formats formatOf anyDepthOrStencil isDepthOrStencil named taken
 all-agree true All = refl
 all-agree true StencilOnly = refl
 all-agree true DepthOnly = refl
@@ -69,32 +70,49 @@ all-agree false Plane2 = refl
 
 -- ---- what the test says of one format and aspect
 
-pub same-is : (s t : Bool) → same s t ≡ true → s ≡ t
-same-is true t e = sym e
-same-is false true e = e
-same-is false false e = refl
-
 pub or-rest : (s t : Bool) → (s || t) ≡ true → s ≡ false → t ≡ true
 or-rest true t e f = let z : _≡_ {A = ℕ} 0 1 = cc in absurd (omega arith)
 or-rest false t e f = e
 
-record Agrees (reads : Bool) (format : ℕ) (aspect : TextureAspect) : Type 0 where
-  allowed : (goesB (formatRule reads format aspect) && isOne (chosenAspects format aspect)) ≡ aspectAllowed reads format aspect
-  bytes : isDepthStencil format ≡ false → isGivenB (blockCopySize format aspect) ≡ true
+depth-stencil : (format : ℕ) (aspect : TextureAspect) → (isDepthOrStencil format ≡ false → aspect ≡ All) → (aspect ≡ All → ⊥) → not (isDepthOrStencil format) ≡ false
+depth-stencil format aspect color other = go (isDepthOrStencil format) refl
+  where
+    go : (t : Bool) → isDepthOrStencil format ≡ t → not t ≡ false
+    go true e = refl
+    go false e = absurd (other (color e))
 
-pub below-nv12 : (format : ℕ) → isFormat format ≡ true → isMultiPlanar format ≡ false → format < 21
-unfolding isFormat isMultiPlanar formats
-below-nv12 format known no-planes =
-    let listed : format < 22 = ltb-true format 22 known in
-    let other = eqb-false format 21 no-planes in
-    omega arith
+not-lacking : (format : ℕ) (aspect : TextureAspect) → InStandard format aspect → lacking aspect format ≡ false
+unfolding lacking
+not-lacking format All s = refl
+not-lacking format StencilOnly s = depth-stencil format StencilOnly (s .color) (λ e. let z : _≡_ {A = ℕ} 0 1 = cc in omega arith)
+not-lacking format DepthOnly s = depth-stencil format DepthOnly (s .color) (λ e. let z : _≡_ {A = ℕ} 0 1 = cc in omega arith)
+not-lacking format Plane0 s = depth-stencil format Plane0 (s .color) (λ e. let z : _≡_ {A = ℕ} 0 1 = cc in omega arith)
+not-lacking format Plane1 s = depth-stencil format Plane1 (s .color) (λ e. let z : _≡_ {A = ℕ} 0 1 = cc in omega arith)
+not-lacking format Plane2 s = depth-stencil format Plane2 (s .color) (λ e. let z : _≡_ {A = ℕ} 0 1 = cc in omega arith)
+
+record Agrees (reads : Bool) (format : ℕ) (aspect : TextureAspect) : Type 0 where
+  kind : isDepthStencil format ≡ isDepthOrStencil format
+  allowed : (goesB (formatRule reads format aspect) && isOne (bits (named (formatOf format) aspect))) ≡ validOne reads (taken format aspect)
+  bytes : isDepthOrStencil format ≡ false → orElse (blockCopySize format aspect) 1 ≡ blockBytes format aspect
+
+some-bytes : (n : ℕ) → not (eqb n none) ≡ true → orElse (cond (eqb n none) Absent (Given n)) 1 ≡ n
+unfolding orElse
+some-bytes n e = rw (not-true (eqb n none) e)
 
 agreed : (reads : Bool) (format : ℕ) (aspect : TextureAspect) → InStandard format aspect → Agrees reads format aspect
-unfolding agrees
+unfolding agrees blockBytes
 agreed reads format aspect s =
-    let test = at-below (agrees reads aspect) 21 (all-agree reads aspect) format (below-nv12 format (s .known) (s .no-planes)) in
-    let parts = both-true (same (goesB (formatRule reads format aspect) && isOne (chosenAspects format aspect)) (aspectAllowed reads format aspect)) (isDepthStencil format || isGivenB (blockCopySize format aspect)) (or-rest (eqb (chosenAspects format aspect) 0) _ test (s .chosen)) in
-    record { allowed = same-is _ _ (parts .0); bytes = λ e. or-rest (isDepthStencil format) _ (parts .1) e }
+    let test = at-below (agrees reads aspect) 21 (all-agree reads aspect) format (below format (s .known)) in
+    let parts = both-true (same (goesB (formatRule reads format aspect) && isOne (bits (named (formatOf format) aspect))) (validOne reads (taken format aspect))) (isDepthOrStencil format || not (eqb (bytesOfOne (named (formatOf format) aspect)) none)) (or-rest (lacking aspect format) _ test (not-lacking format aspect s)) in
+    let row = row-of format (s .known) in
+    record {
+      kind = row .depth-or-stencil;
+      allowed = same-is _ _ (parts .0);
+      bytes = λ e.
+          ap (λ o. orElse o 1) (row .bytes aspect)
+          ∙ some-bytes (bytesOfOne (named (formatOf format) aspect)) (or-rest (isDepthOrStencil format) _ (parts .1) e)
+          ∙ ap bytesOfOne (sym (taken-is format aspect s));
+    }
 
 goes-of : (c : Checked) → goesB c ≡ true → c ≡ C.GoOn
 unfolding goesB
@@ -107,11 +125,6 @@ goes-by c e = rw e
 
 -- ---- alignment
 
-given-same : (o : OptionU32) → isGivenB o ≡ true → orElse o 1 ≡ orElse o 0
-unfolding isGivenB orElse
-given-same (Given n) e = refl
-given-same Absent e = let z : _≡_ {A = ℕ} 0 1 = cc in absurd (omega arith)
-
 rest-of : (n m : ℕ) → multiple n m ≡ true → n % m ≡ 0
 unfolding multiple
 rest-of n m e = eqb-true (n % m) 0 e
@@ -120,10 +133,10 @@ no-rest : (n m : ℕ) → n % m ≡ 0 → multiple n m ≡ true
 unfolding multiple
 no-rest n m e = eq-eqb (n % m) 0 e
 
-row-of : (o : OptionU32) → isUnalignedRow o ≡ false → (n : ℕ) → o ≡ Given n → n % 256 ≡ 0
+row-whole : (o : OptionU32) → isUnalignedRow o ≡ false → (n : ℕ) → o ≡ Given n → n % 256 ≡ 0
 unfolding isUnalignedRow
-row-of (Given m) e n q = let s : m ≡ n = cc in rw (← s) (rest-of m 256 (not-false (multiple m 256) e))
-row-of Absent e n q = let z : _≡_ {A = ℕ} 0 1 = cc in absurd (omega arith)
+row-whole (Given m) e n q = let s : m ≡ n = cc in rw (← s) (rest-of m 256 (not-false (multiple m 256) e))
+row-whole Absent e n q = let z : _≡_ {A = ℕ} 0 1 = cc in absurd (omega arith)
 
 row-by : (o : OptionU32) → ((n : ℕ) → o ≡ Given n → n % 256 ≡ 0) → isUnalignedRow o ≡ false
 unfolding isUnalignedRow
@@ -134,23 +147,23 @@ module _ (reads : Bool) (format : ℕ) (aspect : TextureAspect) (layout : TexelC
   abbrev alignment : ℕ
   alignment = offsetAlignment format aspect
 
-  at-four : isDepthStencil format ≡ true → alignment ≡ 4
+  at-four : isDepthOrStencil format ≡ true → alignment ≡ 4
   unfolding offsetAlignment
-  at-four e = rw e
+  at-four e = rw (g .kind, e)
 
-  at-bytes : isDepthStencil format ≡ false → alignment ≡ blockBytes format aspect
-  unfolding offsetAlignment blockBytes
-  at-bytes e = rw e (given-same (blockCopySize format aspect) (g .bytes e))
+  at-bytes : isDepthOrStencil format ≡ false → alignment ≡ blockBytes format aspect
+  unfolding offsetAlignment
+  at-bytes e = rw (g .kind, e) (g .bytes e)
 
-  aligned-of : multiple (layout .offset) alignment ≡ true → isUnalignedRow (layout .«bytes_per_row») ≡ false → AlignedLayout format (blockBytes format aspect) layout
+  aligned-of : multiple (layout .offset) alignment ≡ true → isUnalignedRow (layout .«bytes_per_row») ≡ false → AlignedLayout format aspect layout
   aligned-of o r =
       record {
         depth-stencil = λ e. rw (← at-four e) (rest-of (layout .offset) alignment o);
         other = λ e. rw (← at-bytes e) (rest-of (layout .offset) alignment o);
-        row = row-of (layout .«bytes_per_row») r;
+        row = row-whole (layout .«bytes_per_row») r;
       }
 
-  offset-by : AlignedLayout format (blockBytes format aspect) layout → (s : Bool) → isDepthStencil format ≡ s → multiple (layout .offset) alignment ≡ true
+  offset-by : AlignedLayout format aspect layout → (s : Bool) → isDepthOrStencil format ≡ s → multiple (layout .offset) alignment ≡ true
   offset-by l true e = no-rest (layout .offset) alignment (rw (at-four e) (l .depth-stencil e))
   offset-by l false e = no-rest (layout .offset) alignment (rw (at-bytes e) (l .other e))
 
@@ -165,7 +178,7 @@ off false t h = refl
 
 module _ (reads aligned : Bool) (t : Texture) (aspect : TextureAspect) (layout : TexelCopyBufferLayout) (s : InStandard (t .format) aspect) where
   abbrev chosen : ℕ
-  chosen = chosenAspects (t .format) aspect
+  chosen = bits (named (formatOf (t .format)) aspect)
 
   abbrev A : ℕ
   A = offsetAlignment (t .format) aspect
@@ -182,7 +195,7 @@ module _ (reads aligned : Bool) (t : Texture) (aspect : TextureAspect) (layout :
   g : Agrees reads (t .format) aspect
   g = agreed reads (t .format) aspect s
 
-  standard : formatRule reads (t .format) aspect ≡ C.GoOn → textureBufferCopy aspect chosen t layout aligned ≡ C.GoOn → TextureBufferCopy reads aligned t aspect (blockBytes (t .format) aspect) layout
+  standard : formatRule reads (t .format) aspect ≡ C.GoOn → textureBufferCopy aspect chosen t layout aligned ≡ C.GoOn → TextureBufferCopy reads aligned t aspect layout
   unfolding textureBufferCopy layoutChecked
   standard f e =
       let samples = went-past Checked (not (eqb (t .«sample_count») 1)) (C.Refused (E.InvalidSampleCount (t .«sample_count»))) aspect-line C.GoOn e no-refusal in
@@ -195,15 +208,15 @@ module _ (reads aligned : Bool) (t : Texture) (aspect : TextureAspect) (layout :
         layout-aligned = λ a. aligned-of reads (t .format) aspect layout g (not-false (multiple (layout .offset) A) (not-both aligned _ (offset .0) a)) (not-both aligned _ (row .0) a);
       }
 
-  both : TextureBufferCopy reads aligned t aspect (blockBytes (t .format) aspect) layout → (goesB (formatRule reads (t .format) aspect) ≡ true) × (isOne chosen ≡ true)
+  both : TextureBufferCopy reads aligned t aspect layout → (goesB (formatRule reads (t .format) aspect) ≡ true) × (isOne chosen ≡ true)
   both v = both-true (goesB (formatRule reads (t .format) aspect)) (isOne chosen) (g .allowed ∙ v .allowed)
 
-  ours : TextureBufferCopy reads aligned t aspect (blockBytes (t .format) aspect) layout → textureBufferCopy aspect chosen t layout aligned ≡ C.GoOn
+  ours : TextureBufferCopy reads aligned t aspect layout → textureBufferCopy aspect chosen t layout aligned ≡ C.GoOn
   unfolding textureBufferCopy layoutChecked
   ours v =
       goes-past Checked (not (eqb (t .«sample_count») 1)) (C.Refused (E.InvalidSampleCount (t .«sample_count»))) aspect-line (rw (eq-eqb (t .«sample_count») 1 (v .one-sample)))
       ∙ goes-past Checked (not (isOne chosen)) (C.Refused E.CopyAspectNotOne) offset-line (rw (both v .1))
-      ∙ goes-past Checked (aligned && not (multiple (layout .offset) A)) (C.Refused (E.UnalignedBufferOffset (layout .offset))) row-line (off aligned _ (λ a. rw (offset-by reads (t .format) aspect layout g (v .layout-aligned a) (isDepthStencil (t .format)) refl)))
+      ∙ goes-past Checked (aligned && not (multiple (layout .offset) A)) (C.Refused (E.UnalignedBufferOffset (layout .offset))) row-line (off aligned _ (λ a. rw (offset-by reads (t .format) aspect layout g (v .layout-aligned a) (isDepthOrStencil (t .format)) refl)))
       ∙ goes-past Checked (aligned && isUnalignedRow (layout .«bytes_per_row»)) (C.Refused E.UnalignedBytesPerRow) C.GoOn (off aligned _ (λ a. row-by (layout .«bytes_per_row») (v .layout-aligned a .row)))
 
 pub buffer-copies : BufferCopies
@@ -211,3 +224,9 @@ buffer-copies reads aligned t aspect layout s = (
   λ e. standard reads aligned t aspect layout s (e .0) (e .1),
   λ v. (goes-of (formatRule reads (t .format) aspect) (both reads aligned t aspect layout s v .0), ours reads aligned t aspect layout s v),
 )
+
+-- so exactly one aspect is chosen
+pub one-aspect :
+    (reads aligned : Bool) (t : Texture) (aspect : TextureAspect) (layout : TexelCopyBufferLayout) → InStandard (t .format) aspect
+    → TextureBufferCopy reads aligned t aspect layout → isOne (bits (named (formatOf (t .format)) aspect)) ≡ true
+one-aspect reads aligned t aspect layout s v = both reads aligned t aspect layout s v .1
