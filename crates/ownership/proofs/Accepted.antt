@@ -1,24 +1,16 @@
 -- What an acceptance says of the copy.
 -- Assumes nothing.
-use mathlib.Core.Path.{_≡_, refl, sym, ap, _∙_}
+use mathlib.Core.Path.{_≡_, refl, ap, _∙_}
 use mathlib.Core.Bool.{Bool, true, false, not, _&&_}
-use Prim.Native.Nat.{ℕ, _+_, _*_, _^_, _≤_, _<_}
+use Prim.Native.Nat.{ℕ}
 use native.Mathlib.Omega.{arith}
-use lib.Dec.{eqb, leb, ltb}
+use lib.Dec.{eqb, leb}
 use borrow.Author.Tests.{not-false}
-use Rattle.checks.specs.Checks.{stop-if, pick}
-use Rattle.checks.proofs.Rules.{both-true, went-past}
-use Rattle.measures.specs.declared.Extent3d.{Extent3d}
-use Rattle.measures.specs.Measure.{blocksOf, multiple}
-use Rattle.measures.proofs.Rounding.{block-laws}
+use Rattle.checks.specs.Checks.{stop-if}
+use Rattle.checks.proofs.Rules.{went-past}
+use Rattle.measures.specs.Measure.{multiple}
 use Rattle.flags.specs.Flags.{holds, isOne}
-use Rattle.formats.specs.Sheet.{isFormat}
 use Rattle.formats.specs.Aspects.{chosenAspects}
-use Rattle.formats.proofs.Rows.{every-format}
-use Rattle.levels.specs.declared.TextureDimension.{TextureDimension}
-use Rattle.levels.specs.declared.TextureDimension.the-variants.{D1, D2, D3}
-use Rattle.levels.specs.Level.{dimensionOf, mipLevelSize}
-use Rattle.measures.specs.Measure.{physicalSize}
 use Rattle.refusals.specs.declared.CopySide.{CopySide}
 use Rattle.refusals.specs.declared.CopySide.the-variants.{Source, Destination}
 use Rattle.refusals.specs.declared.TransferError.{TransferError}
@@ -28,11 +20,7 @@ use Rattle.refusals.specs.declared.Checked.the-variants as C
 use Rattle.refusals.specs.declared.DownlevelFlags.the-variants.{DepthTextureAndBufferCopies}
 use Rattle.refusals.specs.Answers.{after}
 use Rattle.refusals.proofs.Answers.{went-on}
-use Rattle.records.specs.declared.Texture.{Texture}
-use Rattle.records.specs.Limits.{maxBufferSize, maxSide3d}
-use Rattle.records.specs.Bounds.{bufferInBounds, textureInBounds, fieldsInBounds, bufferChecked, textureChecked}
-use Rattle.records.specs.Extents.{logicalExtent, physicalExtent}
-use Rattle.records.proofs.Bounded.{buffer-laws, texture-laws}
+use Rattle.records.specs.Bounds.{bufferInBounds, textureInBounds, bufferChecked, textureChecked}
 use Rattle.ranges.specs.declared.CopyExtent.{CopyExtent}
 use Rattle.ranges.specs.declared.RangeChecked.{RangeChecked}
 use Rattle.ranges.specs.declared.RangeChecked.the-variants as R
@@ -56,10 +44,22 @@ use Rattle.buffer_texture_plans.specs.declared.BufferTexturePlan.{BufferTexture
 use Rattle.buffer_texture.specs.declared.BufferTexturePlanned.{BufferTexturePlanned}
 use Rattle.buffer_texture.specs.declared.BufferTexturePlanned.the-variants as P
 use Rattle.copies.specs.Copies.{after-range, after-selector}
+use Rattle.init.specs.declared.TextureInitRange.{TextureInitRange}
+use Rattle.init.specs.Init.{srcTextureRange, dstTextureRange}
 use Rattle.buffer_texture_plans.specs.Plan.{planOf}
 use Rattle.buffer_texture.specs.Plan.{after-linear, lacksDepthFact, uploadPlaced, uploadAllowed, uploadRanged, bufferToTexture, downloadPlaced, downloadAllowed, downloadRanged, textureToBuffer}
-use Rattle.ownership.specs.Copy.{Copy, planned, dimension, depth, blockW, blockH, bytes, wide, high, dense, row, rows, image, imageBytes, total, bufferSide, textureRange}
-use Rattle.ownership.proofs.Formats.{formatRule, block-has-bytes}
+use Rattle.ownership.specs.Copy.{Copy, planned}
+use Rattle.ownership.proofs.Formats.{formatRule}
+
+-- ---- the ranges as the plan functions have them
+
+abbrev pub bufferSide : Bool → CopySide
+bufferSide true = Source
+bufferSide false = Destination
+
+abbrev pub plansTexture : Bool → Copy → TextureInitRange
+plansTexture true c = dstTextureRange (c .view) (c .texture) (c .size)
+plansTexture false c = srcTextureRange (c .view) (c .texture) (c .size)
 
 -- ---- one line each
 
@@ -124,14 +124,14 @@ texture-ok c side h = not-false _ (went-past Checked (not (textureInBounds (c .t
 
 -- ---- the whole order of checks
 
-abbrev denseFor : Copy → Dense
+abbrev pub denseFor : Copy → Dense
 denseFor c = denseOf (c .texture .format) (c .view .aspect) (c .size)
 
 -- the plan of a copy that every check has passed
 abbrev pub planFor : Bool → Copy → BufferTexturePlan
 planFor reads c =
     planOf (c .layout) (c .size) (copyExtent (c .texture) (c .size)) (arrayLayerCount (c .texture) (c .size))
-    (baseOf (c .view) (c .texture) (chosenAspects (c .texture .format) (c .view .aspect))) (given (c .layout) (denseFor c)) (bufferSide reads) (textureRange reads c)
+    (baseOf (c .view) (c .texture) (chosenAspects (c .texture .format) (c .view .aspect))) (given (c .layout) (denseFor c)) (bufferSide reads) (plansTexture reads c)
 
 pub record Checks (reads : Bool) (c : Copy) (p : BufferTexturePlan) : Type 0 where
   pub buffer-bounds : bufferInBounds (c .buffer) ≡ true
@@ -144,7 +144,7 @@ pub record Checks (reads : Bool) (c : Copy) (p : BufferTexturePlan) : Type 0 whe
 
 plan-alike :
     (c : Copy) (reads : Bool) {v v′ : CopyExtent} {n n′ : ℕ} {b b′ : TextureCopyBase} {s s′ : LinearData} → v ≡ v′ → n ≡ n′ → b ≡ b′ → s ≡ s′
-    → planOf (c .layout) (c .size) v n b s (bufferSide reads) (textureRange reads c) ≡ planOf (c .layout) (c .size) v′ n′ b′ s′ (bufferSide reads) (textureRange reads c)
+    → planOf (c .layout) (c .size) v n b s (bufferSide reads) (plansTexture reads c) ≡ planOf (c .layout) (c .size) v′ n′ b′ s′ (bufferSide reads) (plansTexture reads c)
 plan-alike c reads e f g h = cc
 
 uploaded : (c : Copy) (p : BufferTexturePlan) → planned true c ≡ P.Plan p → Checks true c p

@@ -1,21 +1,20 @@
 -- Asking a plan until none is left gives its regions and nothing else, and of an accepted copy's plan the copy's.
 -- Assumes nothing.
-use mathlib.Core.Path.{_≡_, refl, sym, ap, _∙_}
+use mathlib.Core.Path.{_≡_, refl, ap, _∙_}
+use mathlib.Core.Bool.{true}
 use mathlib.Core.List.{List, [], _∷_}
 use Prim.Native.Nat.{ℕ, zero, suc, _+_, _*_, _%_, _^_, _<_}
 use native.Mathlib.Omega.{arith}
 use native.Mathlib.Nat.{suc-mul, mod-eq-of-lt}
 use borrow.Author.Tests.{eq-eqb, ne-eqb}
 use Rattle.checks.specs.Checks.{stop-if}
-use Rattle.selectors.specs.Selector.{layerOf}
 use Rattle.buffer_texture_plans.specs.declared.BufferTextureCopy.{BufferTextureCopy}
 use Rattle.buffer_texture_plans.specs.declared.BufferTexturePlan.{BufferTexturePlan}
-use Rattle.buffer_texture_plans.specs.declared.AskedBufferTexture.{AskedBufferTexture}
 use Rattle.buffer_texture_plans.specs.declared.NextBufferTextureCopy.the-variants.{Region, NoneLeft}
 use Rattle.copies.specs.Copies.{nextLayer}
 use Rattle.buffer_texture_plans.specs.Asking.{moved, advanced, nextOf}
-use Rattle.ownership.specs.Copy.{Copy, dimension, image, regionAt, regionsFrom}
-use Rattle.ownership.specs.Demand3.{Gives, ended, gave}
+use Rattle.ownership.specs.Asking.{Gives, ended, gave}
+use Rattle.ownership.specs.Copy.{Copy, image, is2D, regionAt, regionsFrom}
 
 -- the next n regions of a plan
 abbrev pub nextRegions : ℕ → BufferTexturePlan → List BufferTextureCopy
@@ -48,25 +47,30 @@ gives-only (suc n) {p} (gave {r = r} {rs = rs} h g) e =
     let t : rs ≡ nextRegions n (advanced p) = gives-only n (rw m at g) (omega arith) in
     cc
 
+-- the region of image m is that of a layer, and neither its offset nor its layer wraps
+pub record Steady (c : Copy) (m : ℕ) : Type 0 where
+  pub layered : is2D c ≡ true
+  pub offset : c .layout .offset + m * image c < 2 ^ 64
+  pub layer : c .view .origin .z + m < 2 ^ 32
+
 module _ (c : Copy) where
   -- one stride on and one layer on is the next region, where nothing wraps
-  moved-on : (k : ℕ) → c .layout .offset + suc k * image c < 2 ^ 64 → layerOf (dimension c) (c .view .origin .z) + suc k < 2 ^ 32 → moved (regionAt c k) (image c) ≡ regionAt c (suc k)
+  moved-on : (k : ℕ) → Steady c (suc k) → moved (regionAt c k) (image c) ≡ regionAt c (suc k)
   unfolding moved nextLayer
-  moved-on k o l =
+  moved-on k s =
       let e : c .layout .offset + k * image c + image c ≡ c .layout .offset + suc k * image c = omega (arith, suc-mul k (image c)) in
-      let f : layerOf (dimension c) (c .view .origin .z) + k + 1 ≡ layerOf (dimension c) (c .view .origin .z) + suc k = omega arith in
-      let p : (c .layout .offset + k * image c + image c) % 2 ^ 64 ≡ c .layout .offset + suc k * image c = ap (λ (n : ℕ). n % 2 ^ 64) e ∙ mod-eq-of-lt o in
-      let q : (layerOf (dimension c) (c .view .origin .z) + k + 1) % 2 ^ 32 ≡ layerOf (dimension c) (c .view .origin .z) + suc k = ap (λ (n : ℕ). n % 2 ^ 32) f ∙ mod-eq-of-lt l in
-      rw (p, q)
+      let f : c .view .origin .z + k + 1 ≡ c .view .origin .z + suc k = omega arith in
+      let p : (c .layout .offset + k * image c + image c) % 2 ^ 64 ≡ c .layout .offset + suc k * image c = ap (λ (n : ℕ). n % 2 ^ 64) e ∙ mod-eq-of-lt (s .offset) in
+      let q : (c .view .origin .z + k + 1) % 2 ^ 32 ≡ c .view .origin .z + suc k = ap (λ (n : ℕ). n % 2 ^ 32) f ∙ mod-eq-of-lt (s .layer) in
+      rw (s .layered, p, q)
 
   pub the-copys :
-      (n k : ℕ) (p : BufferTexturePlan) → p .stride ≡ image c → (0 < n → p .region ≡ regionAt c k)
-      → ((m : ℕ) → m < k + n → (c .layout .offset + m * image c < 2 ^ 64) × (layerOf (dimension c) (c .view .origin .z) + m < 2 ^ 32))
+      (n k : ℕ) (p : BufferTexturePlan) → p .stride ≡ image c → (0 < n → p .region ≡ regionAt c k) → ((m : ℕ) → 0 < m → m < k + n → Steady c m)
       → nextRegions n p ≡ regionsFrom c k n
   unfolding advanced
   the-copys zero k p s r b = refl
   the-copys (suc n) k p s r b =
       let h : p .region ≡ regionAt c k = r (omega arith) in
-      let on : 0 < n → moved (p .region) (p .stride) ≡ regionAt c (suc k) = λ pos. rw (h, s) (moved-on k (b (suc k) (omega arith) .0) (b (suc k) (omega arith) .1)) in
-      let t : nextRegions n (advanced p) ≡ regionsFrom c (suc k) n = the-copys n (suc k) (advanced p) s on (λ m l. b m (omega arith)) in
+      let on : 0 < n → moved (p .region) (p .stride) ≡ regionAt c (suc k) = λ pos. rw (h, s) (moved-on k (b (suc k) (omega arith) (omega arith))) in
+      let t : nextRegions n (advanced p) ≡ regionsFrom c (suc k) n = the-copys n (suc k) (advanced p) s on (λ m l h. b m l (omega arith)) in
       cc

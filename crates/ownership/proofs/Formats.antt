@@ -1,77 +1,89 @@
--- An aspect that a buffer copy may read or write has bytes, by one test that is computed of every format and aspect.
+-- The planner's sheet of formats has the claim's figures, by one test that is computed of every format and aspect.
 -- Assumes nothing.
 use mathlib.Core.Path.{_≡_, refl}
 use mathlib.Core.Bool.{Bool, true, false, not, _&&_, _||_}
 use Prim.Native.Nat.{ℕ, _<_}
-use native.Mathlib.Omega.{arith}
-use borrow.Author.Tests.{ltb-true}
+use lib.Dec.{eqb, ltb}
+use borrow.Author.Tests.{ltb-true, eqb-true}
 use Rattle.checks.specs.Checks.{stop-if}
+use Rattle.checks.proofs.Rules.{both-true}
 use Rattle.checks.proofs.Tables.{everyBelow, at-below}
-use Rattle.measures.specs.declared.OptionU32.{OptionU32}
-use Rattle.measures.specs.declared.OptionU32.the-variants.{Given, Absent}
 use Rattle.measures.specs.Measure.{orElse}
 use Rattle.flags.specs.Flags.{holds, met, isOne}
 use Rattle.formats.specs.declared.TextureAspect.{TextureAspect}
 use Rattle.formats.specs.declared.TextureAspect.the-variants.{All, StencilOnly, DepthOnly, Plane0, Plane1, Plane2}
-use Rattle.formats.specs.Sheet.{formats, rowOf, aspectsOf, isFormat}
+use Rattle.formats.specs.Sheet.{rowOf, aspectsOf, blockWidth, blockHeight, isFormat}
+use Rattle.formats.specs.Sheet as sheet
 use Rattle.formats.specs.Aspects.{askedOf, chosenAspects, bytesOf, blockCopySize}
-use Rattle.formats.proofs.Rows.{every-format}
 use Rattle.refusals.specs.declared.Checked.{Checked}
 use Rattle.refusals.specs.declared.Checked.the-variants as C
 use Rattle.linear.specs.Linear.{blockBytes}
 use Rattle.format_rules.specs.Rules.{isDepthOnly, srcFormat, dstFormat}
+use Rattle.ownership.specs.Formats.{formats, blockSide, isAll, chosenBits, bytesPerBlock}
 
 goesB : Checked → Bool
 goesB C.GoOn = true
 goesB (C.Refused e) = false
 
-isGivenB : OptionU32 → Bool
-isGivenB (Given n) = true
-isGivenB Absent = false
-
 abbrev pub formatRule : Bool → ℕ → TextureAspect → Checked
 formatRule true format aspect = dstFormat format aspect
 formatRule false format aspect = srcFormat format aspect
 
+-- a buffer copy may read or write it
 copyable : Bool → TextureAspect → ℕ → Bool
-copyable reads aspect format = not (goesB (formatRule reads format aspect) && isOne (chosenAspects format aspect)) || isGivenB (blockCopySize format aspect)
+copyable reads aspect format = goesB (formatRule reads format aspect) && isOne (chosenAspects format aspect)
 
-all-copyable : (reads : Bool) (aspect : TextureAspect) → everyBelow (copyable reads aspect) 22 ≡ true
-unfolding copyable goesB isGivenB formats rowOf aspectsOf askedOf chosenAspects bytesOf blockCopySize met holds isOne stop-if srcFormat dstFormat isDepthOnly
-all-copyable true All = refl
-all-copyable true StencilOnly = refl
-all-copyable true DepthOnly = refl
-all-copyable true Plane0 = refl
-all-copyable true Plane1 = refl
-all-copyable true Plane2 = refl
-all-copyable false All = refl
-all-copyable false StencilOnly = refl
-all-copyable false DepthOnly = refl
-all-copyable false Plane0 = refl
-all-copyable false Plane1 = refl
-all-copyable false Plane2 = refl
+-- the blocks' sides and the chosen aspects are the claim's, and where it may be copied the bytes too, and some
+alike : Bool → TextureAspect → ℕ → Bool
+alike reads aspect format =
+    eqb (blockWidth format) (blockSide format)
+    && (eqb (blockHeight format) (blockSide format)
+    && (ltb 0 (blockSide format)
+    && (eqb (chosenAspects format aspect) (chosenBits format aspect)
+    && (not (copyable reads aspect format) || (eqb (blockBytes format aspect) (bytesPerBlock format aspect) && ltb 0 (bytesPerBlock format aspect))))))
 
-bytes-some : (format : ℕ) (aspect : TextureAspect) → isGivenB (blockCopySize format aspect) ≡ true → 0 < blockBytes format aspect
-unfolding isGivenB blockBytes orElse
-bytes-some format aspect e = go (blockCopySize format aspect) refl e
-  where
-    go : (o : OptionU32) → blockCopySize format aspect ≡ o → isGivenB o ≡ true → 0 < orElse o 0
-    go (Given n) q e = every-format format .bytes-some aspect n q
-    go Absent q e = let z : _≡_ {A = ℕ} 0 1 = cc in absurd (omega arith)
+all-alike : (reads : Bool) (aspect : TextureAspect) → everyBelow (alike reads aspect) 22 ≡ true
+unfolding alike copyable goesB sheet.formats rowOf aspectsOf blockWidth blockHeight askedOf chosenAspects bytesOf blockCopySize blockBytes orElse met holds isOne stop-if srcFormat dstFormat isDepthOnly formats blockSide isAll chosenBits bytesPerBlock
+all-alike true All = refl
+all-alike true StencilOnly = refl
+all-alike true DepthOnly = refl
+all-alike true Plane0 = refl
+all-alike true Plane1 = refl
+all-alike true Plane2 = refl
+all-alike false All = refl
+all-alike false StencilOnly = refl
+all-alike false DepthOnly = refl
+all-alike false Plane0 = refl
+all-alike false Plane1 = refl
+all-alike false Plane2 = refl
 
-given-by : (g o t : Bool) → (not (g && o) || t) ≡ true → g ≡ true → o ≡ true → t ≡ true
-given-by true true t e p q = e
-given-by true false t e p q = let z : _≡_ {A = ℕ} 0 1 = cc in absurd (omega arith)
-given-by false o t e p q = let z : _≡_ {A = ℕ} 0 1 = cc in absurd (omega arith)
+pub record Figures (format : ℕ) (aspect : TextureAspect) : Type 0 where
+  pub width : blockWidth format ≡ blockSide format
+  pub height : blockHeight format ≡ blockSide format
+  pub side-some : 0 < blockSide format
+  pub chosen : chosenAspects format aspect ≡ chosenBits format aspect
+  pub bytes : blockBytes format aspect ≡ bytesPerBlock format aspect
+  pub bytes-some : 0 < bytesPerBlock format aspect
 
-goes-by : (c : Checked) → c ≡ C.GoOn → goesB c ≡ true
+may-copy : (m : Checked) (o t : Bool) → (not (goesB m && o) || t) ≡ true → m ≡ C.GoOn → o ≡ true → t ≡ true
 unfolding goesB
-goes-by c e = rw e
+may-copy m o t e p q = rw (p, q) at e
 
-pub block-has-bytes :
+pub figures :
     (reads : Bool) (format : ℕ) (aspect : TextureAspect) → isFormat format ≡ true → formatRule reads format aspect ≡ C.GoOn
-    → isOne (chosenAspects format aspect) ≡ true → 0 < blockBytes format aspect
-unfolding isFormat formats copyable
-block-has-bytes reads format aspect known goes one =
-    let test = at-below (copyable reads aspect) 22 (all-copyable reads aspect) format (ltb-true format 22 known) in
-    bytes-some format aspect (given-by (goesB (formatRule reads format aspect)) (isOne (chosenAspects format aspect)) (isGivenB (blockCopySize format aspect)) test (goes-by (formatRule reads format aspect) goes) one)
+    → isOne (chosenAspects format aspect) ≡ true → Figures format aspect
+unfolding isFormat sheet.formats alike copyable
+figures reads format aspect known goes one =
+    let w = both-true _ _ (at-below (alike reads aspect) 22 (all-alike reads aspect) format (ltb-true format 22 known)) in
+    let h = both-true _ _ (w .1) in
+    let s = both-true _ _ (h .1) in
+    let a = both-true _ _ (s .1) in
+    let b = both-true _ _ (may-copy (formatRule reads format aspect) (isOne (chosenAspects format aspect)) _ (a .1) goes one) in
+    record {
+      width = eqb-true _ _ (w .0);
+      height = eqb-true _ _ (h .0);
+      side-some = ltb-true _ _ (s .0);
+      chosen = eqb-true _ _ (a .0);
+      bytes = eqb-true _ _ (b .0);
+      bytes-some = ltb-true _ _ (b .1);
+    }

@@ -1,7 +1,9 @@
 pub mod Blocks
 pub mod Formats
 pub mod Accepted
+pub mod Bridges
 pub mod Sound
+pub mod Planned
 pub mod Owners
 pub mod Asks
 pub mod Named

@@ -1,16 +1,16 @@
 -- Who owns a byte of an accepted copy with no size of 0.
 -- Assumes nothing.
-use mathlib.Core.Path.{_≡_, refl, sym, ap, _∙_}
-use mathlib.Core.Bool.{Bool, true, false, _&&_, _||_, not}
+use mathlib.Core.Path.{_≡_, ap, _∙_}
+use mathlib.Core.Bool.{true, _&&_, _||_}
 use mathlib.Core.Logic.{_⊎_, inl, inr, ⊎-elim}
 use Prim.Native.Nat.{ℕ, _+_, _-_, _*_, _≤_, _<_}
 use native.Mathlib.Omega.{arith}
 use native.Mathlib.Nat.{zero-mul, eq-zero-or-pos}
-use lib.Dec.{eqb, ltb}
-use borrow.Author.Tests.{eqb-true, ltb-false, not-true, ne-eqb}
-use Rattle.checks.proofs.Rules.{both-true, either, neither}
-use Rattle.linear.specs.Linear.{stacked, severalRows, severalImages, isContiguous, denseOf}
-use Rattle.ownership.specs.Copy.{Copy, depth, blockW, blockH, bytes, wide, high, dense, row, rows, image, imageBytes, total, contiguous}
+use lib.Dec.{eqb, leb}
+use borrow.Author.Tests.{eqb-true, leb-true, ne-eqb}
+use Rattle.checks.proofs.Rules.{both-true, either}
+use Rattle.ownership.specs.Copy.{Copy, depth, block, bytes, wide, high, dense, row, rows, image, imageBytes, total}
+use Rattle.ownership.specs.Ranges.{contiguous}
 use Rattle.ownership.specs.Demand3.{Block, Owns, Owned, firstByte}
 use Rattle.ownership.proofs.Blocks as blocks
 use Rattle.ownership.proofs.Sound.{Sound}
@@ -20,17 +20,17 @@ pos-left q b n e h = ⊎-elim (λ z. absurd (omega (arith, e, ap (λ (k : ℕ). 
 
 module _ (c : Copy) (s : Sound c) (pw : 0 < c .size .width) (ph : 0 < c .size .height) (pd : 0 < depth c) where
   wide-pos : 0 < wide c
-  wide-pos = pos-left (wide c) (blockW c) (c .size .width) (s .w-whole) pw
+  wide-pos = pos-left (wide c) (block c) (c .size .width) (s .w-whole) pw
 
   high-pos : 0 < high c
-  high-pos = pos-left (high c) (blockH c) (c .size .height) (s .h-whole) ph
+  high-pos = pos-left (high c) (block c) (c .size .height) (s .h-whole) ph
 
   image-bytes : imageBytes c ≡ (high c - 1) * row c + dense c
-  unfolding imageBytes stacked
+  unfolding imageBytes
   image-bytes = rw (ne-eqb (high c) 0 (λ e. omega (arith, high-pos)))
 
   pub the-total : total c ≡ (depth c - 1) * image c + ((high c - 1) * row c + dense c)
-  unfolding total stacked
+  unfolding total
   the-total = rw (ne-eqb (depth c) 0 (λ e. omega arith), image-bytes)
 
   pub owner : (byte : ℕ) (b b′ : Block) → Owns c b byte → Owns c b′ byte → b ≡ b′
@@ -51,18 +51,18 @@ module _ (c : Copy) (s : Sound c) (pw : 0 < c .size .width) (ph : 0 < c .size .h
 
   -- nothing pads the rows or the images
   unpadded : contiguous c ≡ true → ((depth c ≤ 1) ⊎ (image c ≡ high c * dense c)) × ((high c ≤ 1) ⊎ (row c ≡ dense c))
-  unfolding contiguous isContiguous denseOf severalRows severalImages
+  unfolding contiguous
   unpadded e =
-      let p = both-true (eqb (row c) (dense c) || not (ltb 1 (depth c) || ltb 1 (high c))) (eqb (image c) (imageBytes c) || not (ltb 1 (depth c))) e in
+      let p = both-true (eqb (row c) (dense c) || (leb (high c) 1 && leb (depth c) 1)) (eqb (image c) (imageBytes c) || leb (depth c) 1) e in
       go (either _ _ (p .0)) (either _ _ (p .1))
     where
       go :
-          (eqb (row c) (dense c) ≡ true) ⊎ (not (ltb 1 (depth c) || ltb 1 (high c)) ≡ true)
-          → (eqb (image c) (imageBytes c) ≡ true) ⊎ (not (ltb 1 (depth c)) ≡ true)
+          (eqb (row c) (dense c) ≡ true) ⊎ ((leb (high c) 1 && leb (depth c) 1) ≡ true)
+          → (eqb (image c) (imageBytes c) ≡ true) ⊎ (leb (depth c) 1 ≡ true)
           → ((depth c ≤ 1) ⊎ (image c ≡ high c * dense c)) × ((high c ≤ 1) ⊎ (row c ≡ dense c))
       go (inl r) (inl i) = (inr (whole-rows (eqb-true _ _ r) (eqb-true _ _ i)), inr (eqb-true _ _ r))
-      go (inl r) (inr d) = (inl (ltb-false _ _ (not-true _ d)), inr (eqb-true _ _ r))
-      go (inr m) i = let q = neither _ _ (not-true _ m) in (inl (ltb-false _ _ (q .0)), inl (ltb-false _ _ (q .1)))
+      go (inl r) (inr d) = (inl (leb-true _ _ d), inr (eqb-true _ _ r))
+      go (inr m) i = let q = both-true _ _ m in (inl (leb-true _ _ (q .1)), inl (leb-true _ _ (q .0)))
 
   -- so every byte of the span is owned
   pub full : contiguous c ≡ true → (byte : ℕ) → c .layout .offset ≤ byte → byte < c .layout .offset + total c → Owned c byte

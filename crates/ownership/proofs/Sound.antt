@@ -1,77 +1,102 @@
--- The figures of an accepted copy.
+-- The figures of an accepted copy, in the claim's own words.
 -- Assumes nothing.
-use mathlib.Core.Path.{_≡_, refl, sym, ap, _∙_}
-use mathlib.Core.Bool.{Bool, true, _&&_}
-use Prim.Native.Nat.{ℕ, _+_, _*_, _≤_, _<_}
+use mathlib.Core.Path.{_≡_, ap, _∙_}
+use mathlib.Core.Bool.{Bool}
+use Prim.Native.Nat.{ℕ, _+_, _*_, _/_, _%_, _≤_, _<_}
 use native.Mathlib.Omega.{arith}
-use Rattle.checks.proofs.Rules.{both-true}
-use Rattle.measures.specs.declared.Extent3d.{Extent3d}
-use Rattle.measures.specs.Measure.{physicalSize}
+use native.Mathlib.Nat.{div-add-mod'}
+use Rattle.measures.specs.Measure.{blocksOf, physicalSize}
 use Rattle.measures.proofs.Rounding.{block-laws}
-use Rattle.formats.specs.Sheet.{isFormat}
-use Rattle.formats.proofs.Rows.{every-format}
-use Rattle.levels.specs.declared.TextureDimension.{TextureDimension}
-use Rattle.levels.specs.declared.TextureDimension.the-variants.{D1, D2, D3}
-use Rattle.levels.specs.Level.{mipLevelSize}
-use Rattle.records.specs.declared.Texture.{Texture}
+use Rattle.levels.specs.Level.{dimensionOf, mipLevelSize}
+use Rattle.formats.specs.Sheet.{blockWidth, blockHeight}
 use Rattle.records.specs.Limits.{maxBufferSize, maxSide3d}
-use Rattle.records.specs.Bounds.{textureInBounds, fieldsInBounds, samplesInBounds, formatSuits}
 use Rattle.records.specs.Extents.{logicalExtent, physicalExtent}
 use Rattle.records.proofs.Bounded.{buffer-laws, texture-laws}
-use Rattle.linear.specs.Linear.{denseOf}
+use Rattle.linear.specs.declared.Dense.{Dense}
+use Rattle.linear.specs.declared.LinearData.{LinearData}
+use Rattle.linear.specs.Linear.{denseOf, dataOf, isContiguous, severalRows, severalImages}
+use Rattle.linear.specs.Laws.{LinearLaws, totalBytes, given}
 use Rattle.buffer_texture_plans.specs.declared.BufferTexturePlan.{BufferTexturePlan}
-use Rattle.ownership.specs.Copy.{Copy, dimension, depth, blockW, blockH, bytes, wide, high, dense, row, rows, image, imageBytes, total}
-use Rattle.ownership.proofs.Formats.{block-has-bytes}
-use Rattle.ownership.proofs.Accepted.{Checks}
-
--- how far layers and depth go: a 1D texture has one
-abbrev pub limit : TextureDimension → ℕ
-limit D1 = 1
-limit D2 = maxSide3d
-limit D3 = maxSide3d
+use Rattle.ownership.specs.Copy.{Copy, depth, bytes, block, wide, high, dense, row, rows, image, imageBytes, total}
+use Rattle.ownership.specs.Ranges.{contiguous}
+use Rattle.ownership.proofs.Formats.{Figures, figures}
+use Rattle.ownership.proofs.Accepted.{Checks, denseFor}
+use Rattle.ownership.proofs.Bridges.{known, dense-is, stacked-is, single-is, neither-is}
 
 pub record Sound (c : Copy) : Type 0 where
   pub small : c .buffer .size ≤ maxBufferSize
-  pub bw-pos : 0 < blockW c
-  pub bh-pos : 0 < blockH c
+  pub block-pos : 0 < block c
   pub bytes-pos : 0 < bytes c
-  pub w-whole : wide c * blockW c ≡ c .size .width
-  pub h-whole : high c * blockH c ≡ c .size .height
+  pub w-whole : wide c * block c ≡ c .size .width
+  pub h-whole : high c * block c ≡ c .size .height
   pub fit : dense c ≤ row c
   pub tall : high c ≤ rows c
   pub end : c .layout .offset + total c ≤ c .buffer .size
-  pub deep : c .view .origin .z + depth c ≤ limit (dimension c)
+  pub deep : c .view .origin .z + depth c ≤ maxSide3d
 
-known-format : (t : Texture) → textureInBounds t ≡ true → isFormat (t .format) ≡ true
-unfolding textureInBounds fieldsInBounds
-known-format t b = both-true (isFormat (t .format)) _ (both-true (fieldsInBounds t) (samplesInBounds t && formatSuits t) b .0) .0
+whole : (n side b : ℕ) → 0 < b → side ≡ b → n % side ≡ 0 → (blocksOf n side ≡ n / b) × (n / b * b ≡ n)
+whole n side b pos e h =
+    let m : n % b ≡ 0 = rw e at h in
+    (ap (λ (s : ℕ). blocksOf n s) e ∙ block-laws b pos .quotient n m, omega (arith, div-add-mod' n b))
 
-within-limit : (d : TextureDimension) (e : Extent3d) (level : ℕ) → mipLevelSize d e level .«depth_or_array_layers» ≤ maxSide3d → mipLevelSize d e level .«depth_or_array_layers» ≤ limit d
-unfolding mipLevelSize
-within-limit D1 e level h = omega arith
-within-limit D2 e level h = h
-within-limit D3 e level h = h
+-- ---- what the planner's linear data is made of
 
-deep : (reads : Bool) (c : Copy) (p : BufferTexturePlan) → Checks reads c p → c .view .origin .z + depth c ≤ limit (dimension c)
-unfolding physicalExtent physicalSize logicalExtent
-deep reads c p k =
-    let few = texture-laws (c .texture) (k .texture-bounds) .level-sized (c .view .«mip_level») .depth-few in
-    let near = within-limit (dimension c) (c .texture .size) (c .view .«mip_level») few in
-    omega (arith, k .range .z-inside)
+abbrev measures : Copy → Dense
+measures c = record { «row_bytes» = dense c; rows = high c; images = depth c }
 
-pub sound-of : (reads : Bool) (c : Copy) (p : BufferTexturePlan) → Checks reads c p → Sound c
-unfolding denseOf total imageBytes
-sound-of reads c p k =
-    let f = every-format (c .texture .format) in
-    record {
-      small = buffer-laws (c .buffer) (k .buffer-bounds);
-      bw-pos = f .width-some;
-      bh-pos = f .height-some;
-      bytes-pos = block-has-bytes reads (c .texture .format) (c .view .aspect) (known-format (c .texture) (k .texture-bounds)) (k .format) (k .one);
-      w-whole = block-laws (blockW c) (f .width-some) .exact (c .size .width) (k .range .width-whole);
-      h-whole = block-laws (blockH c) (f .height-some) .exact (c .size .height) (k .range .height-whole);
-      fit = k .linear .row-fits;
-      tall = k .linear .rows-fit;
-      end = k .linear .inside;
-      deep = deep reads c p k;
-    }
+total-is : (c : Copy) → totalBytes (c .layout) (measures c) ≡ total c
+unfolding total imageBytes
+total-is c = simp (stacked-is, dense-is)
+
+-- the required bytes, the image stride, and whether nothing pads
+abbrev pub linearOf : Copy → LinearData
+linearOf c = record { «bytes_in_copy» = total c; «image_stride» = image c; «is_contiguous» = contiguous c }
+
+given-is : (c : Copy) → given (c .layout) (measures c) ≡ linearOf c
+unfolding dataOf isContiguous severalRows severalImages contiguous total imageBytes
+given-is c = simp (stacked-is, dense-is, neither-is, single-is)
+
+module _ (reads : Bool) (c : Copy) (p : BufferTexturePlan) (k : Checks reads c p) where
+  pub figured : Figures (c .texture .format) (c .view .aspect)
+  figured = figures reads (c .texture .format) (c .view .aspect) (known (c .texture) (k .texture-bounds) .0) (k .format) (k .one)
+
+  across : (blocksOf (c .size .width) (blockWidth (c .texture .format)) ≡ wide c) × (wide c * block c ≡ c .size .width)
+  across = whole (c .size .width) _ (block c) (figured .side-some) (figured .width) (k .range .width-whole)
+
+  along : (blocksOf (c .size .height) (blockHeight (c .texture .format)) ≡ high c) × (high c * block c ≡ c .size .height)
+  along = whole (c .size .height) _ (block c) (figured .side-some) (figured .height) (k .range .height-whole)
+
+  measured : denseFor c ≡ measures c
+  unfolding denseOf
+  measured = let w = across .0 in let h = along .0 in let b = figured .bytes in cc
+
+  linear : LinearLaws (c .layout) (c .buffer .size) (measures c)
+  linear = rw measured at (k .linear)
+
+  pub linear-is : given (c .layout) (denseFor c) ≡ linearOf c
+  linear-is = ap (λ (d : Dense). given (c .layout) d) measured ∙ given-is c
+
+  -- the copied images are the level's
+  pub level-deep : c .view .origin .z + depth c ≤ mipLevelSize (dimensionOf (c .texture .dimension)) (c .texture .size) (c .view .«mip_level») .«depth_or_array_layers»
+  unfolding physicalExtent physicalSize logicalExtent
+  level-deep = k .range .z-inside
+
+  deep : c .view .origin .z + depth c ≤ maxSide3d
+  unfolding logicalExtent
+  deep =
+      let few = texture-laws (c .texture) (k .texture-bounds) .level-sized (c .view .«mip_level») .depth-few in
+      omega (arith, level-deep)
+
+  pub sound-of : Sound c
+  sound-of =
+      record {
+        small = buffer-laws (c .buffer) (k .buffer-bounds);
+        block-pos = figured .side-some;
+        bytes-pos = figured .bytes-some;
+        w-whole = across .1;
+        h-whole = along .1;
+        fit = rw dense-is at (linear .row-fits);
+        tall = rw dense-is at (linear .rows-fit);
+        end = rw (total-is c) at (linear .inside);
+        deep = deep;
+      }

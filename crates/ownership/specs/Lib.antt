@@ -1,2 +1,6 @@
+pub mod Formats
+pub mod Regions
+pub mod Asking
 pub mod Copy
+pub mod Ranges
 pub mod Demand3

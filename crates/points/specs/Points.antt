@@ -1,8 +1,16 @@
 -- The starred points of document 01, one list: job sheets as they are written, and the listings that the paper gives.
 use mathlib.Core.Path.{_≡_}
 use mathlib.Core.List.{List, [], _∷_, map}
+use Prim.Native.Nat.{ℕ}
 use Prim.Native.String.{String}
-use Rattle.listing.specs.Listing.{listingOf}
+use lib.ListN.{getD}
+use Rattle.requests.specs.declared.TextureRequest.{TextureRequest}
+use Rattle.requests.specs.declared.Request.the-variants.{TextureToTexture}
+use Rattle.requests.specs.Requests.{plannedOf}
+use Rattle.listing.specs.Listing.{copyAnswer, listingOf}
+use Rattle.webgpu.specs.WebGpu.{Reading}
+use Rattle.webgpu_copies.specs.WholeCopies.{PlansTextures, StandardTextures}
+use Rattle.webgpu_copies.specs.Examples.{extent, texture, side}
 use Rattle.points.specs.Bytes.{bytes}
 
 pub record Point : Type 0 where
@@ -61,3 +69,18 @@ points =
 -- each sheet's listing is the one given
 abbrev pub Starred : Type 0
 Starred = map (λ (p : Point). listingOf (bytes (p .sheet))) points ≡ map (λ (p : Point). bytes (p .listing)) points
+
+-- ---- "accepted by the Rust, refused by the standard"
+
+abbrev pub point : ℕ → Point
+point n = getD points n (record { sheet = ""; listing = "" })
+
+-- the copy of one 3D texture onto itself, z 0 to z 1, depth 2
+abbrev pub volume : TextureRequest
+volume = record { «src_index» = 0; src = side (texture 0 3 (extent 4 4 4)) 0; «dst_index» = 0; dst = side (texture 0 3 (extent 4 4 4)) 1; size = extent 4 4 2 }
+
+-- it is what its sheet asks for, and the standard refuses it, however it is read
+pub record RefusedByStandard : Type 0 where
+  pub asked : listingOf (bytes (point 7 .sheet)) ≡ copyAnswer 0 (plannedOf (TextureToTexture volume))
+  pub accepted : PlansTextures (volume .«src_index») (volume .«dst_index») (volume .src) (volume .dst) (volume .size)
+  pub refused : (reading : Reading) → StandardTextures (volume .«src_index») (volume .«dst_index») (volume .src) (volume .dst) (volume .size) reading → ⊥

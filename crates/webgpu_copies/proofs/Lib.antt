@@ -4,3 +4,4 @@ pub mod Buffers
 pub mod Small
 pub mod Textures
 pub mod TextureCopies
+pub mod Parting

@@ -1,6 +1,7 @@
 // The planner's whole copies against the WebGPU standard's own. No code runs here: each function's contract is a claim, and
 // the check asks for its proof.
 ghost use Rattle.webgpu_copies.specs.Bounds.{RecordBounds};
+ghost use Rattle.webgpu_copies.specs.Examples.{Examples};
 ghost use Rattle.webgpu_copies.specs.WholeCopies.{BufferToBuffer, BufferToBufferParts, UploadAgrees, UploadAgreesWithLayers, DownloadAgrees, DownloadAgreesWithLayers, CopiesPart, TextureToTexture, TextureToTextureWithLayers, TexturesPart};
 
 // Records are within their bounds exactly where document 01 has them so.
@@ -37,4 +38,9 @@ pub fn texture_to_texture_agrees()
     ensures agree { λ _. ⌜ TextureToTexture ⌝ }
     ensures layers { λ _. ⌜ TextureToTextureWithLayers ⌝ }
     ensures part { λ _. ⌜ TexturesPart ⌝ }
+{}
+
+// At the smallest copy of each exception the planner and the standard part.
+pub fn examples_part()
+    ensures { λ _. ⌜ Examples ⌝ }
 {}

@@ -1,0 +1,76 @@
+-- The plan of an accepted copy with no size of 0, in the claim's own words.
+-- Assumes nothing.
+use mathlib.Core.Path.{_≡_, refl, sym, _∙_}
+use mathlib.Core.Bool.{Bool, true, false, cond, _||_, not}
+use Prim.Native.Nat.{ℕ, _+_, _*_, _<_}
+use native.Mathlib.Omega.{arith}
+use native.Mathlib.Nat.{zero-mul}
+use borrow.Author.Tests.{ne-eqb}
+use Rattle.checks.specs.Checks.{stop-if}
+use Rattle.formats.specs.Aspects.{chosenAspects}
+use Rattle.ranges.specs.Range.{copyExtent, arrayLayerCount}
+use Rattle.selectors.specs.Selector.{baseOf}
+use Rattle.records.specs.Extents.{logicalExtent}
+use Rattle.init.specs.declared.MemoryInitKind.the-variants.{ImplicitlyInitialized, NeedsInitializedMemory}
+use Rattle.init.specs.Init.{bufferInit, isSource, srcTextureRange, dstTextureRange, textureRange, isPartialCover}
+use Rattle.copies.specs.Copies.{isEmpty}
+use Rattle.buffer_texture_plans.specs.declared.BufferTexturePlan.{BufferTexturePlan}
+use Rattle.buffer_texture_plans.specs.declared.CopyRanges.the-variants.{Given}
+use Rattle.buffer_texture_plans.specs.Plan.{firstRegion, rangesOf, planOf}
+use Rattle.ownership.specs.Copy.{Copy, depth, image, total, count, regionAt}
+use Rattle.ownership.specs.Ranges.{covers, contiguous, touched, filled, bufferRanges}
+use Rattle.ownership.specs.Ranges as R
+use Rattle.ownership.proofs.Accepted.{Checks, plansTexture, bufferSide}
+use Rattle.ownership.proofs.Bridges.{Dimensioned, known, ByDimension, by-dimension, kind-is, touched-is, filled-is}
+use Rattle.ownership.proofs.Sound.{linear-is, level-deep, figured}
+
+abbrev pub planOfCopy : Copy → BufferTexturePlan
+planOfCopy c =
+    record {
+      region = regionAt c 0;
+      stride = image c;
+      left = count c;
+      ranges = Given (R.textureRange c) (bufferRanges c);
+      «bytes_checked» = total c;
+    }
+
+-- a buffer that is read is the source
+run-is : (reads t : Bool) (s n : ℕ) → bufferInit s (bufferSide reads) n t ≡ cond (reads || not t) (touched s (s + n)) (filled s (s + n))
+unfolding bufferInit stop-if isSource
+run-is true true s n = touched-is s (s + n)
+run-is true false s n = touched-is s (s + n)
+run-is false false s n = touched-is s (s + n)
+run-is false true s n = filled-is s (s + n)
+
+module _ (c : Copy) (p : BufferTexturePlan) (k : Checks (c .reads) c p) (pw : 0 < c .size .width) (ph : 0 < c .size .height) (pd : 0 < depth c) where
+  some-size : isEmpty (c .size) ≡ false
+  unfolding isEmpty
+  some-size = rw (ne-eqb (c .size .width) 0 (λ e. omega arith), ne-eqb (c .size .height) 0 (λ e. omega arith), ne-eqb (depth c) 0 (λ e. omega arith))
+
+  shape : Dimensioned (c .texture)
+  shape = known (c .texture) (k .texture-bounds) .1
+
+  sides : ByDimension (c .texture .dimension) (c .view .origin .z) (depth c)
+  sides = by-dimension (c .texture) (c .view .«mip_level») (c .view .origin .z) (depth c) shape (level-deep (c .reads) c p k) pd
+
+  texture-is : (reads : Bool) → reads ≡ c .reads → plansTexture reads c ≡ R.textureRange c
+  unfolding srcTextureRange dstTextureRange textureRange isPartialCover logicalExtent covers
+  texture-is true e =
+      let l = sides .range in
+      let m = kind-is (c .texture) (c .size) (c .view .«mip_level») (c .view .aspect) NeedsInitializedMemory ImplicitlyInitialized shape in
+      rw (← e, l, m)
+  texture-is false e = let l = sides .range in rw (← e, l)
+
+  region-is : firstRegion (c .layout) (baseOf (c .view) (c .texture) (chosenAspects (c .texture .format) (c .view .aspect))) (copyExtent (c .texture) (c .size)) ≡ regionAt c 0
+  unfolding firstRegion baseOf copyExtent
+  region-is =
+      let o : c .layout .offset ≡ c .layout .offset + 0 * image c = omega (arith, zero-mul (image c)) in
+      let l = sides .layer in
+      let z = sides .z in
+      let d = sides .depth in
+      let a = figured (c .reads) c p k .chosen in
+      cc
+
+  pub plan-is : p ≡ planOfCopy c
+  unfolding planOf rangesOf arrayLayerCount
+  plan-is = sym (k .plan) ∙ rw (linear-is (c .reads) c p k, some-size, region-is, sides .layers, texture-is (c .reads) refl, run-is (c .reads) (contiguous c) (c .layout .offset) (total c))
