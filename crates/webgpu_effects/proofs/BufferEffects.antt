@@ -3,24 +3,20 @@
 use mathlib.Core.Path.{_≡_, refl, sym, ap, _∙_}
 use mathlib.Core.Bool.{Bool, true, false, _||_}
 use mathlib.Core.List.{List}
-use mathlib.Core.Logic.{_⊎_, inl, inr}
 use Prim.Native.Nat.{ℕ, _+_, _-_, _*_, _/_, _%_, _^_, _≤_, _<_}
 use native.Mathlib.Omega.{arith}
 use native.Mathlib.Nat.{mul-le-mul-right}
-use lib.Dec.{eqb, ltb}
+use lib.Dec.{ltb}
 use borrow.Author.Tests.{ne-eqb, lt-ltb}
-use Rattle.checks.specs.Checks.{pick}
 use Rattle.measures.specs.declared.OptionU32.{OptionU32}
 use Rattle.measures.specs.declared.OptionU32.the-variants.{Given, Absent}
-use Rattle.measures.specs.Measure.{blocksOf, orElse}
+use Rattle.measures.specs.Measure.{blocksOf}
 use Rattle.measures.proofs.Rounding.{block-laws}
 use Rattle.levels.specs.declared.TextureDimension.{TextureDimension}
 use Rattle.levels.specs.declared.TextureDimension.the-variants.{D1, D2, D3}
 use Rattle.levels.specs.Level as L
 use Rattle.formats.specs.Sheet as F
-use Rattle.formats.specs.Aspects.{chosenAspects}
 use Rattle.formats.proofs.Rows.{every-format}
-use Rattle.records.specs.Limits.{maxBufferSize, maxSide3d}
 use Rattle.records.proofs.Bounded.{buffer-laws}
 use Rattle.ranges.specs.Range as R
 use Rattle.ranges.specs.Range.{copyExtent, arrayLayerCount}
@@ -33,17 +29,17 @@ use Rattle.copies.specs.Copies.{isEmpty}
 use Rattle.buffer_texture_plans.specs.declared.BufferTextureCopy.{BufferTextureCopy}
 use Rattle.buffer_texture_plans.specs.declared.BufferTexturePlan.{BufferTexturePlan}
 use Rattle.buffer_texture_plans.specs.Plan.{firstRegion, planOf}
-use Rattle.webgpu.specs.Formats.{Aspect, Part, Format, Known, formatOf, dimensionOf}
+use Rattle.webgpu.specs.Formats.{Part, Format, Known, formatOf, dimensionOf}
 use Rattle.webgpu.specs.WebGpu.{orZero, IsGiven}
 use Rattle.ownership.specs.Copy.{Copy}
 use Rattle.ownership.proofs.Accepted.{Checks, checks-of, planFor}
 use Rattle.ownership.proofs.Asks.{nextRegions, gives, gives-only}
 use Rattle.webgpu_effects.specs.Blocks.{TexelBlock, In}
-use Rattle.webgpu_effects.specs.Standard.{layerOf, sliceOf, blockAt, Stands}
-use Rattle.webgpu_effects.specs.Regions.{orDense, blockFrom, Puts}
+use Rattle.webgpu_effects.specs.Standard.{layerOf, Stands}
+use Rattle.webgpu_effects.specs.Regions.{orDense, Puts}
 use Rattle.webgpu_effects.specs.Effects.{BufferDoes, BufferEffects}
 use Rattle.webgpu_effects.proofs.Formats.{same-blocks, same-dimension, named-has, has-named}
-use Rattle.webgpu_effects.proofs.Figures.{no-zero, depth-some, limit, in-blocks, in-texels, some-blocks, same-block, strides, Image, image-of, layerFor, sliceFor, region-of}
+use Rattle.webgpu_effects.proofs.Figures.{no-zero, depth-some, limit, in-blocks, in-texels, some-blocks, same-block, strides, image-of, layerFor, sliceFor, region-of}
 use Rattle.webgpu_effects.proofs.Sides.{Side, side-of}
 use Rattle.webgpu_effects.proofs.Numbered.{numbered, Unwrapped, number-of, of-number}
 

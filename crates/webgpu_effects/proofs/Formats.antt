@@ -8,21 +8,19 @@ use mathlib.Core.Logic.{_⊎_, inl, inr}
 use Prim.Native.Nat.{ℕ, _/_, _%_, _<_}
 use native.Mathlib.Omega.{arith}
 use lib.Dec.{eqb}
-use lib.ListN.{length}
 use borrow.Author.Tests.{eqb-true, eq-eqb}
 use Rattle.checks.specs.Checks.{stop-if}
 use Rattle.checks.proofs.Rules.{both-true, either}
 use Rattle.checks.proofs.Tables.{everyBelow, at-below}
 use Rattle.flags.specs.Flags.{holds, met}
 use Rattle.levels.specs.Level as L
-use Rattle.levels.specs.declared.TextureDimension.{TextureDimension}
 use Rattle.levels.specs.declared.TextureDimension.the-variants.{D1, D2, D3}
 use Rattle.formats.specs.declared.TextureAspect.{TextureAspect}
 use Rattle.formats.specs.declared.TextureAspect.the-variants.{All, StencilOnly, DepthOnly, Plane0, Plane1, Plane2}
 use Rattle.formats.specs.Sheet as S
 use Rattle.formats.specs.Sheet.{rowOf, aspectsOf, removeSrgb}
 use Rattle.formats.specs.Aspects.{askedOf, chosenAspects}
-use Rattle.webgpu.specs.Formats.{Aspect, Color, Depth, Stencil, Part, Format, formats, Known, formatOf, isColor, names, namedOf, named, dimensionOf}
+use Rattle.webgpu.specs.Formats.{Aspect, Color, Depth, Stencil, Part, formats, Known, formatOf, isColor, names, namedOf, named, dimensionOf}
 use Rattle.webgpu_effects.specs.Blocks.{In, first, later}
 use Rattle.webgpu_effects.specs.Regions.{bitOf}
 

@@ -1,7 +1,7 @@
 -- The regions of a copy between formats of the standard: each is of a layer and a part, and the parts have the format's aspects.
 -- Assumes nothing.
 use mathlib.Core.Path.{_≡_, refl, sym, ap, _∙_}
-use mathlib.Core.Bool.{Bool, true, false, _&&_, _||_, not, cond}
+use mathlib.Core.Bool.{Bool, true, false, _&&_, cond}
 use mathlib.Core.List.{List, [], _∷_}
 use Prim.Native.Nat.{ℕ, zero, suc, _+_, _-_, _*_, _/_, _%_, _<_}
 use native.Mathlib.Omega.{arith}
@@ -9,9 +9,8 @@ use native.Mathlib.Nat.{add-zero, zero-add, mul-zero, mod-lt, div-lt-iff-lt-mul}
 use lib.Dec.{eqb}
 use lib.ListN.{length, getD}
 use lib.Arith.{digits-lt, digits-div, digits-mod}
-use borrow.Author.Tests.{ne-eqb, eqb-true, eqb-false, not-false}
+use borrow.Author.Tests.{ne-eqb, eqb-true, not-false}
 use Rattle.checks.specs.Checks.{stop-if}
-use Rattle.checks.proofs.Rules.{neither}
 use Rattle.formats.specs.Sheet.{aspectsOf, isMultiPlanar, removeSrgb}
 use Rattle.formats.specs.Aspects.{aspectSpecificFormat}
 use Rattle.texture_plans.specs.declared.TextureCopy.{TextureCopy}
