@@ -25,7 +25,7 @@ use Rattle.webgpu.specs.WebGpu.{logicalSize, toBlock, physicalSubresourceSize, 
 use Rattle.webgpu.specs.Agreement.{MovesWithin, SomeLayers}
 use Rattle.webgpu_copies.specs.Bounds.{BufferInBounds, TextureInBounds}
 use Rattle.webgpu_copies.specs.WholeCopies.{Copy, planned, GivesPlan, StandardCopy, Compared, CopyExcepted, Rules}
-use Rattle.webgpu_copies.specs.Examples.{device, buffer, extent, texture, viewAt, StandardBuffers, Standard, depthless, colorDepth, layerOne, noLayer, side, OntoZ1, StandardOntoZ1, Examples}
+use Rattle.webgpu_copies.specs.Examples.{device, buffer, extent, texture, viewAt, StandardBuffers, Standard, tooWide, depthless, colorDepth, layerOne, noLayer, side, OntoZ1, StandardOntoZ1, Examples}
 use Rattle.webgpu_copies.proofs.Lines.{opposite}
 use Rattle.webgpu_copies.proofs.Records.{record-bounds}
 use Rattle.webgpu_copies.proofs.Buffers.{buffer-to-buffer-parts}
@@ -73,6 +73,23 @@ depthless-holds reading =
       buffer-usage = refl;
       texture-usage = refl;
       view-valid = first-level reading 16 2 0 (extent 1 1 1) (extent 1 1 1) All refl refl (λ w. one-texel reading) (omega arith) (omega arith) (omega arith);
+      suits = record { one-sample = refl; allowed = refl; layout-aligned = λ a. record { depth-stencil = λ e. refl; other = λ e. refl; row = λ n e. absent e } };
+      linear = record { rows-given = λ h. absurd (omega arith); images-given = λ h. absurd (omega arith); row-fits = tt; image-fits = tt; inside = omega arith };
+    }
+
+-- a color format of one sample is not copied whole
+not-whole : {C : Type 0} → CopiedWhole (texture 0 2 (extent 8193 1 1)) → C
+unfolding formats formatOf anyDepthOrStencil isDepthOrStencil
+not-whole (inl e) = opposite false e refl
+not-whole (inr h) = absurd (omega arith)
+
+wide-holds : Standard tooWide
+unfolding formats formatOf anyDepthOrStencil isDepthOrStencil named dimensionOf logicalSize toBlock physicalSubresourceSize taken blockBytes requiredBytesInCopy
+wide-holds reading =
+    record {
+      buffer-usage = refl;
+      texture-usage = refl;
+      view-valid = first-level reading 0 2 0 (extent 8193 1 1) (extent 1 1 1) All refl refl not-whole (omega arith) (omega arith) (omega arith);
       suits = record { one-sample = refl; allowed = refl; layout-aligned = λ a. record { depth-stencil = λ e. refl; other = λ e. refl; row = λ n e. absent e } };
       linear = record { rows-given = λ h. absurd (omega arith); images-given = λ h. absurd (omega arith); row-fits = tt; image-fits = tt; inside = omega arith };
     }
@@ -209,6 +226,10 @@ volume-bounds = (refl, refl)
 known : (depthless .texture .format < 21) × (colorDepth .texture .format < 21)
 known = (omega arith, omega arith)
 
+too-wide : TextureInBounds (tooWide .texture) → ⊥
+unfolding dimensionOf
+too-wide b = omega (arith, b .size .0 .1)
+
 too-large : BufferInBounds (buffer 268435457 4) → ⊥
 too-large b = omega (arith, b .size)
 
@@ -217,6 +238,7 @@ unfolding formats formatOf anyDepthOrStencil isDepthOrStencil
 examples =
     record {
       large = (large, buffer-to-buffer-parts (device true true) 0 1 (buffer 268435457 4) (buffer 4 8) 0 0 (L.Given 4) (inl too-large));
+      wide = (wide-holds, copies-part .planner true tooWide (known .1) (inr (inl too-wide)));
       index = (indexed, buffer-to-buffer-parts (device true false) 0 1 (buffer 4 20) (buffer 4 40) 0 0 (L.Given 4) (inr (inr (record { fact = refl; index = inl refl; shared = inr (inl refl) }))));
       depth = (depthless-holds, copies-part .planner true depthless (known .0) (inr (inr (inl (refl, refl)))));
       color = (color-holds, copies-part .planner true colorDepth (known .1) (inr (inr (inr (refl, λ e. let z : _≡_ {A = ℕ} 0 1 = cc in omega arith)))));
