@@ -28,7 +28,10 @@ pub fn bench_points() -> Vec<Vec<u8>> {
 
 /// The sheets of docs/DIFFERENCES.md.
 pub fn difference_sheets() -> Vec<Vec<u8>> {
-    sheets(&DIFFERENCES)
+    let refused = REFUSED.iter().map(|(device, (textures, buffers, copies))| {
+        sheet_lines(device, textures, buffers, copies)
+    });
+    sheets(&DIFFERENCES).into_iter().chain(refused).collect()
 }
 
 fn sheets(all: &[Lines]) -> Vec<Vec<u8>> {
@@ -169,7 +172,7 @@ const BENCH_POINTS: [Lines; 15] = [
     ),
 ];
 
-const DIFFERENCES: [Lines; 13] = [
+const DIFFERENCES: [Lines; 14] = [
     (
         &["0 3 1 1 2 1 1 1", "0 2 1 1 2 1 1 2"],
         &[],
@@ -216,6 +219,11 @@ const DIFFERENCES: [Lines; 13] = [
         &["3 0 0 - - 0 0 0 0 1 0 1 1 1"],
     ),
     (
+        &["15 2 1 1 2 1 1 3"],
+        &["0 8"],
+        &["3 0 0 - - 0 0 0 0 0 0 1 1 0"],
+    ),
+    (
         &["0 2 1 1 2 1 1 2"],
         &["256 4"],
         &["2 0 0 256 1 0 0 0 0 0 0 1 0 2"],
@@ -237,6 +245,36 @@ const DIFFERENCES: [Lines; 13] = [
     ),
 ];
 
+/// Copies that the planner refuses and the standard does not, each with its device.
+const REFUSED: [(&str, Lines); 5] = [
+    ("1 1", (&[], &["268435457 4", "4 8"], &["1 0 0 1 0 4"])),
+    (
+        "1 1",
+        (
+            &["0 2 8193 1 1 1 1 3"],
+            &["1 8"],
+            &["3 0 0 - - 0 0 0 0 0 0 1 1 1"],
+        ),
+    ),
+    ("1 0", (&[], &["4 20", "4 40"], &["1 0 0 1 0 4"])),
+    (
+        "0 1",
+        (
+            &["16 2 1 1 1 1 1 3"],
+            &["2 8"],
+            &["3 0 0 - - 0 0 0 0 0 0 1 1 1"],
+        ),
+    ),
+    (
+        "1 1",
+        (
+            &["0 2 1 1 1 1 1 3"],
+            &["1 8"],
+            &["3 0 0 - - 0 0 0 0 0 2 1 1 1"],
+        ),
+    ),
+];
+
 #[cfg(test)]
 mod tests {
     use super::*;
@@ -248,21 +286,35 @@ mod tests {
         cell.split('`').skip(1).step_by(2).collect()
     }
 
-    /// Each row of the document's table of sheets is one of ours.
+    /// The rows of the document's tables that have so many cells, and a copy in one.
+    fn rows(text: &str, cells: usize, copy: usize) -> Vec<Vec<&str>> {
+        text.lines()
+            .map(|line| line.split('|').collect::<Vec<_>>())
+            .filter(|row| row.len() == cells + 2 && row[copy].contains('`'))
+            .collect()
+    }
+
+    /// Each row of the document's tables of sheets is one of ours.
     #[test]
     fn differences_are_those_of_the_document() {
         let text = std::fs::read_to_string(DOCUMENT).expect("the document is here");
-        let rows: Vec<Vec<&str>> = text
-            .lines()
-            .map(|line| line.split('|').collect::<Vec<_>>())
-            .filter(|cells| cells.len() == 7 && cells[4].contains('`'))
-            .collect();
-        assert!(rows.len() >= 12);
-        for row in rows {
+        let accepted = rows(&text, 5, 4);
+        assert!(accepted.len() >= 13);
+        for row in accepted {
             let (textures, buffers, copies) = (code(row[2]), code(row[3]), code(row[4]));
             let found = DIFFERENCES
                 .iter()
                 .any(|sheet| *sheet == (&textures[..], &buffers[..], &copies[..]));
+            assert!(found, "{row:?}");
+        }
+        let refused = rows(&text, 6, 5);
+        assert_eq!(refused.len(), REFUSED.len());
+        for row in refused {
+            let (device, textures) = (code(row[2]), code(row[3]));
+            let (buffers, copies) = (code(row[4]), code(row[5]));
+            let found = REFUSED
+                .iter()
+                .any(|sheet| *sheet == (device[0], (&textures[..], &buffers[..], &copies[..])));
             assert!(found, "{row:?}");
         }
     }

@@ -3,7 +3,7 @@
 
 mod common;
 
-use common::{lines, listing, sheet};
+use common::{lines, listing, sheet, sheet_on};
 
 fn check(textures: &[&str], buffers: &[&str], copy: &str, expected: &[&str]) {
     let text = sheet(textures, buffers, &[copy]);
@@ -135,6 +135,64 @@ fn some_layers_of_a_stencil_texture() {
             "b 0 0 4 1",
             "r 0 - - 0 1 0 0 0 4 1 1 1",
         ],
+    );
+}
+
+#[test]
+fn no_layer_of_a_stencil_texture() {
+    check(
+        &["15 2 1 1 2 1 1 3"],
+        &["0 8"],
+        "3 0 0 - - 0 0 0 0 0 0 1 1 0",
+        &["copy 0 ok 0 0 0"],
+    );
+}
+
+/// The standard has neither 01's bounds nor wgpu's facts, and does not look at
+/// the aspect of a color format in a copy with a buffer.
+#[test]
+fn refused_beyond_the_standard() {
+    let refused = |device, textures: &[&str], buffers: &[&str], copy, expected| {
+        let text = sheet_on(device, textures, buffers, &[copy]);
+        assert_eq!(listing(&text), lines(&[expected]), "{text}");
+    };
+    let buffers = "1 0 0 1 0 4";
+    refused(
+        "1 1",
+        &[],
+        &["268435457 4", "4 8"],
+        buffers,
+        "copy 0 refused 3 1 0 0 0 0",
+    );
+    refused(
+        "1 0",
+        &[],
+        &["4 20", "4 40"],
+        buffers,
+        "copy 0 refused 34 0 0 0 0 0",
+    );
+    let texel = "3 0 0 - - 0 0 0 0 0 0 1 1 1";
+    refused(
+        "1 1",
+        &["0 2 8193 1 1 1 1 3"],
+        &["1 8"],
+        texel,
+        "copy 0 refused 2 1 0 0 0 0",
+    );
+    refused(
+        "0 1",
+        &["16 2 1 1 1 1 1 3"],
+        &["2 8"],
+        texel,
+        "copy 0 refused 34 0 0 0 0 0",
+    );
+    let lacking = "3 0 0 - - 0 0 0 0 0 2 1 1 1";
+    refused(
+        "1 1",
+        &["0 2 1 1 1 1 1 3"],
+        &["1 8"],
+        lacking,
+        "copy 0 refused 12 0 0 0 0 0",
     );
 }
 

@@ -1,0 +1,31 @@
+-- Asking a plan of one kind is asking a plan of any kind.
+-- Assumes nothing.
+use mathlib.Core.Path.{refl, ap}
+use mathlib.Core.List.{List, map}
+use Rattle.buffer_texture_plans.specs.declared.BufferTextureCopy.{BufferTextureCopy}
+use Rattle.buffer_texture_plans.specs.declared.BufferTexturePlan.{BufferTexturePlan}
+use Rattle.texture_plans.specs.declared.TextureCopy.{TextureCopy}
+use Rattle.texture_plans.specs.declared.TexturePlan.{TexturePlan}
+use Rattle.plans.specs.declared.Plan.the-variants.{BufferTexture, Textures}
+use Rattle.ownership.specs.Asking as B
+use Rattle.ownership.proofs.Claims.{every-copy}
+use Rattle.texture_regions.specs.Claim as T
+use Rattle.texture_regions.proofs.Claims.{every-texture-copy}
+use Rattle.region_output.specs.Asking.{bufferTexture, textures, bufferTextureAnswer, texturesAnswer, answer, handedBack, Gives, ended, gave}
+use Rattle.region_output.specs.Copies.{BufferTextureCopies, TextureCopies}
+
+buffer-texture-asked : {p : BufferTexturePlan} {rs : List BufferTextureCopy} → B.Gives p rs → Gives (BufferTexture p) (map bufferTexture rs)
+unfolding answer handedBack bufferTextureAnswer
+buffer-texture-asked (B.ended a same) = ended (ap bufferTextureAnswer a) (ap BufferTexture same)
+buffer-texture-asked (B.gave a rest) = gave (ap bufferTextureAnswer a) (buffer-texture-asked rest)
+
+textures-asked : {p : TexturePlan} {rs : List TextureCopy} → T.Gives p rs → Gives (Textures p) (map textures rs)
+unfolding answer handedBack texturesAnswer
+textures-asked (T.ended a same) = ended (ap texturesAnswer a) (ap Textures same)
+textures-asked (T.gave a rest) = gave (ap texturesAnswer a) (textures-asked rest)
+
+pub buffer-texture-copies : BufferTextureCopies
+buffer-texture-copies c p e w h d = buffer-texture-asked (every-copy c p e w h d .asked _ .1 refl)
+
+pub texture-copies : TextureCopies
+texture-copies i j c p e = textures-asked (every-texture-copy i j c p e _ .1 refl)

@@ -1,0 +1,25 @@
+-- The regions that asking an accepted copy's plan gives are those that document 01 gives for the copy: so they are what is written,
+-- printed and handed to other languages.
+use mathlib.Core.Path.{_≡_}
+use mathlib.Core.List.{map}
+use Prim.Native.Nat.{ℕ, _<_}
+use Rattle.buffer_texture_plans.specs.declared.BufferTexturePlan.{BufferTexturePlan}
+use Rattle.buffer_texture.specs.declared.BufferTexturePlanned.the-variants as U
+use Rattle.texture_plans.specs.declared.TexturePlan.{TexturePlan}
+use Rattle.texture_copies.specs.declared.TexturePlanned.the-variants as X
+use Rattle.texture_copies.specs.Plan.{textureToTexture}
+use Rattle.plans.specs.declared.Plan.the-variants.{BufferTexture, Textures}
+use Rattle.ownership.specs.Copy as B
+use Rattle.texture_regions.specs.Regions as T
+use Rattle.region_output.specs.Asking.{bufferTexture, textures, Gives}
+
+-- with a buffer, of no size of 0
+abbrev pub BufferTextureCopies : Type 0
+BufferTextureCopies =
+    (c : B.Copy) (p : BufferTexturePlan) → B.planned (c .reads) c ≡ U.Plan p → 0 < c .size .width → 0 < c .size .height → 0 < B.depth c
+    → Gives (BufferTexture p) (map bufferTexture (B.regionsOf c))
+
+abbrev pub TextureCopies : Type 0
+TextureCopies =
+    (i j : ℕ) (c : T.Copy) (p : TexturePlan) → textureToTexture i (c .src) j (c .dst) (c .size) ≡ X.Plan p
+    → Gives (Textures p) (map textures (T.regionsOf c))
