@@ -17,11 +17,12 @@ use Rattle.texture_plans.specs.declared.TextureCopy.{TextureCopy}
 use Rattle.texture_plans.specs.declared.TexturePlan.{TexturePlan}
 use Rattle.texture_copies.specs.Plan.{isThis, isPlaneSplit, formatsDiffer}
 use Rattle.webgpu.specs.Formats.{Aspect, Color, Depth, Stencil, Known}
+use Rattle.webgpu.proofs.Rows.{below}
 use Rattle.texture_regions.specs.Regions.{Copy, Part, part, bits, parts, dimension, depth, layersOf, isEmpty, isNv12, regionOf, regionAt, regionsFrom, regionsOf}
 use Rattle.texture_regions.proofs.Accepted as A
 use Rattle.texture_regions.proofs.Same.{same-bits}
 use Rattle.webgpu_effects.specs.Blocks.{In, first, later}
-use Rattle.webgpu_effects.proofs.Formats.{HasBit, nowhere, known-below, Alike, alike}
+use Rattle.webgpu_effects.proofs.Formats.{HasBit, nowhere, Alike, alike}
 
 -- ---- elements of a list by number
 
@@ -140,7 +141,7 @@ module _ (c : Copy) (p : TexturePlan) (k : A.Checks c p) (src-known : Known (c .
   no-split : isPlaneSplit (c .src) (c .dst) ≡ false
   unfolding isPlaneSplit aspectSpecificFormat isMultiPlanar stop-if isThis removeSrgb
   no-split =
-      let below = known-below (c .src .texture .format) src-known in
+      let known = below (c .src .texture .format) src-known in
       rw (ne-eqb (removeSrgb (c .src .texture .format)) 21 (λ e. omega (arith, e)))
 
   pub formats-alike : Alike (c .src .texture .format) (c .dst .texture .format)
@@ -162,7 +163,7 @@ module _ (c : Copy) (p : TexturePlan) (k : A.Checks c p) (src-known : Known (c .
   dst-bits = sym (same-bits (c .dst) (k .dst-bounds)) ∙ dst-chosen
 
   src-plain : isNv12 (c .src) ≡ false
-  src-plain = let below = known-below (c .src .texture .format) src-known in ne-eqb (c .src .texture .format) 21 (λ e. omega (arith, e))
+  src-plain = let known = below (c .src .texture .format) src-known in ne-eqb (c .src .texture .format) 21 (λ e. omega (arith, e))
 
   parts-are : parts c ≡ partsOf (eqb word 6) word
   unfolding parts
