@@ -5,9 +5,17 @@ use Prim.Native.Nat.{ℕ}
 use Prim.Native.String.{String}
 use lib.ListN.{getD}
 use Rattle.requests.specs.declared.TextureRequest.{TextureRequest}
+use Rattle.requests.specs.declared.Request.{Request}
 use Rattle.requests.specs.declared.Request.the-variants.{TextureToTexture}
-use Rattle.requests.specs.Requests.{plannedOf}
-use Rattle.listing.specs.Listing.{copyAnswer, listingOf}
+use Rattle.records.specs.declared.Texture.{Texture}
+use Rattle.fields.specs.declared.Line.{Line}
+use Rattle.sheet.specs.declared.Parts.{Parts}
+use Rattle.sheet.specs.declared.Sheet.the-variants.{Good}
+use Rattle.sheet.specs.Rows.{textures, copies, rowOf, placesOf}
+use Rattle.sheet.specs.Sheet.{sheetOf}
+use Rattle.job_records.specs.Records.{wordOf}
+use Rattle.jobs.specs.Jobs.{textureAt, textureRequest}
+use Rattle.listing.specs.Listing.{listingOf}
 use Rattle.webgpu.specs.WebGpu.{Reading}
 use Rattle.webgpu_copies.specs.WholeCopies.{PlansTextures, StandardTextures}
 use Rattle.webgpu_copies.specs.Examples.{extent, texture, side}
@@ -79,8 +87,19 @@ point n = getD points n (record { sheet = ""; listing = "" })
 abbrev pub volume : TextureRequest
 volume = record { «src_index» = 0; src = side (texture 0 3 (extent 4 4 4)) 0; «dst_index» = 0; dst = side (texture 0 3 (extent 4 4 4)) 1; size = extent 4 4 2 }
 
--- it is what its sheet asks for, and the standard refuses it, however it is read
+-- the first copy line of a sheet, read as a copy between textures
+module _ (s : List ℕ) (p : Parts) where
+  abbrev pub line : Line
+  line = rowOf s copies (p .copies .first)
+
+  abbrev pub named : ℕ → Texture
+  named field = textureAt s (placesOf s textures (p .textures .count) (p .textures .first)) (wordOf line field)
+
+  abbrev pub request : Request
+  request = textureRequest line (named 1) (named 7)
+
+-- it is what its sheet asks for, it is accepted, and the standard refuses it, however it is read
 pub record RefusedByStandard : Type 0 where
-  pub asked : listingOf (bytes (point 7 .sheet)) ≡ copyAnswer 0 (plannedOf (TextureToTexture volume))
+  pub asked : (p : Parts) → sheetOf (bytes (point 7 .sheet)) ≡ Good p → request (bytes (point 7 .sheet)) p ≡ TextureToTexture volume
   pub accepted : PlansTextures (volume .«src_index») (volume .«dst_index») (volume .src) (volume .dst) (volume .size)
   pub refused : (reading : Reading) → StandardTextures (volume .«src_index») (volume .«dst_index») (volume .src) (volume .dst) (volume .size) reading → ⊥

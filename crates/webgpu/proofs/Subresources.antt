@@ -7,7 +7,7 @@ use mathlib.Core.Logic.{_⊎_, inl, inr, ⊎-elim}
 use Prim.Native.Nat.{ℕ, _+_, _<_, max}
 use native.Mathlib.Omega.{arith}
 use lib.Dec.{eqb, ltb}
-use borrow.Author.Tests.{lt-ltb, ltb-true, eq-eqb, eqb-true}
+use borrow.Author.Tests.{lt-ltb, ltb-true, eq-eqb, eqb-true, eqb-false}
 use Rattle.checks.specs.Checks.{every, stop-if}
 use Rattle.checks.proofs.Rules.{either, both-true, all-true, went-past, goes-past}
 use Rattle.checks.proofs.Tables.{everyBelow, at-below}
@@ -25,7 +25,7 @@ use Rattle.records.specs.declared.Texture.{Texture}
 use Rattle.records.specs.declared.TexelCopyTextureInfo.{TexelCopyTextureInfo}
 use Rattle.selectors.specs.Selector.{overlaps, sameTextureChecked}
 use Rattle.webgpu.specs.Formats.{Aspect, Color, Depth, Stencil, Part, formats, Known, formatOf, named, dimensionOf}
-use Rattle.webgpu.specs.WebGpu.{Subresource, Among, InSet, LayerOf}
+use Rattle.webgpu.specs.WebGpu.{Subresource, Among, InSet, LayerOf, Disjoint}
 use Rattle.webgpu.specs.Agreement.{bits, layersOf, MovesWithin, AllowsWithin, SameTexture, SameTextureParts}
 use Rattle.webgpu.proofs.Rows.{same, same-is, decided, below, row-of}
 
@@ -187,6 +187,9 @@ one-z D1 a b depth u p q = omega arith
 one-z D2 a b depth u p q = absurd (u refl)
 one-z D3 a b depth u p q = omega arith
 
+opposite : true ≡ false → ⊥
+opposite e = let z : _≡_ {A = ℕ} 0 1 = cc in omega arith
+
 -- ---- the rule
 
 module _ (t : Texture) (src dst : TexelCopyTextureInfo) (size : Extent3d) (k : Known (t .format)) where
@@ -273,19 +276,40 @@ module _ (t : Texture) (src dst : TexelCopyTextureInfo) (size : Extent3d) (k : K
         record { level = o .level; aspect = o .shared .2; layer = l .2 },
       )
 
-pub same-texture : SameTexture
-same-texture t src dst size k kept = (
-  λ g s p q. allowed t src dst size k g (overlapping t src dst size k kept s p q),
-  λ apart. allows t src dst size k (λ o. let b = in-both t src dst size k o in apart (b .0) (b .1) (b .2)),
-)
+  -- whether the exception holds is decided
+  layered : (d : TextureDimension) → (d ≡ D2) ⊎ (d ≡ D2 → ⊥)
+  layered D1 = inr (λ e. other-dimension e (inl refl))
+  layered D2 = inl refl
+  layered D3 = inr (λ e. other-dimension e (inr refl))
+
+  moves-or-not : MovesWithin t src dst ⊎ (MovesWithin t src dst → ⊥)
+  unfolding Common
+  moves-or-not = ⊎-elim (λ e. inr (λ m. m .unlayered e)) (λ u. go u (eqb (src .«mip_level») (dst .«mip_level»)) (eqb (src .origin .z) (dst .origin .z)) (common from to) refl refl refl) (layered d)
+    where
+      go :
+          (d ≡ D2 → ⊥) → (l z c : Bool) → eqb (src .«mip_level») (dst .«mip_level») ≡ l → eqb (src .origin .z) (dst .origin .z) ≡ z → common from to ≡ c
+          → MovesWithin t src dst ⊎ (MovesWithin t src dst → ⊥)
+      go u false z c p q r = inr (λ m. eqb-false _ _ p (m .level))
+      go u true true c p q r = inr (λ m. m .moved (eqb-true _ _ q))
+      go u true false false p q r = inr (λ m. opposite (sym (common-by from to (m .shared)) ∙ r))
+      go u true false true p q r = inl (record { unlayered = u; level = eqb-true _ _ p; moved = eqb-false _ _ q; shared = common-of from to r })
 
 pub same-texture-parts : SameTextureParts
-same-texture-parts t src dst size k m =
+same-texture-parts t src dst size m apart =
     let d = dimensionOf (t .dimension) in
-    let depth = size .«depth_or_array_layers» in (
-      allows t src dst size k (λ o. m .moved (one-z d (src .origin .z) (dst .origin .z) depth (m .unlayered) (o .left) (o .right))),
-      λ apart. apart
-          (record { level = src .«mip_level»; aspect = m .shared .0; layer = 0 })
-          (record { level = refl; aspect = m .shared .1; layer = only-layer d (src .origin .z) depth (m .unlayered) })
-          (record { level = m .level; aspect = m .shared .2; layer = only-layer d (dst .origin .z) depth (m .unlayered) }),
-    )
+    let depth = size .«depth_or_array_layers» in
+    apart
+    (record { level = src .«mip_level»; aspect = m .shared .0; layer = 0 })
+    (record { level = refl; aspect = m .shared .1; layer = only-layer d (src .origin .z) depth (m .unlayered) })
+    (record { level = m .level; aspect = m .shared .2; layer = only-layer d (dst .origin .z) depth (m .unlayered) })
+
+module _ (t : Texture) (src dst : TexelCopyTextureInfo) (size : Extent3d) (k : Known (t .format)) where
+  disjoint-or-moves : AllowsWithin t src dst size → Disjoint t src dst size ⊎ MovesWithin t src dst
+  disjoint-or-moves g = ⊎-elim (λ m. inr m) (λ kept. inl (λ s p q. allowed t src dst size k g (overlapping t src dst size k kept s p q))) (moves-or-not t src dst size k)
+
+  allows-by : Disjoint t src dst size ⊎ MovesWithin t src dst → AllowsWithin t src dst size
+  allows-by (inl apart) = allows t src dst size k (λ o. let b = in-both t src dst size k o in apart (b .0) (b .1) (b .2))
+  allows-by (inr m) = allows t src dst size k (λ o. m .moved (one-z (dimensionOf (t .dimension)) (src .origin .z) (dst .origin .z) (size .«depth_or_array_layers») (m .unlayered) (o .left) (o .right)))
+
+pub same-texture : SameTexture
+same-texture t src dst size k = (disjoint-or-moves t src dst size k, allows-by t src dst size k)

@@ -2,22 +2,23 @@
 -- Assumes nothing.
 use mathlib.Core.Path.{_≡_, refl, sym, ap, _∙_}
 use mathlib.Core.Bool.{Bool, true, false, _||_}
-use mathlib.Core.Logic.{_⊎_, inl, inr, ⊎-elim}
+use mathlib.Core.Logic.{inl, inr, ⊎-elim, _↔_}
 use native.Mathlib.Omega.{arith}
 use lib.Dec.{ltb}
 use borrow.Author.Tests.{lt-ltb, ltb-true}
 use Rattle.checks.proofs.Rules.{either}
 use Rattle.measures.specs.declared.Extent3d.{Extent3d}
 use Rattle.formats.specs.Sheet.{blockWidth, blockHeight, isDepthStencil}
+use Rattle.refusals.specs.declared.CopySide.{CopySide}
 use Rattle.records.specs.declared.Texture.{Texture}
 use Rattle.records.specs.declared.TexelCopyTextureInfo.{TexelCopyTextureInfo}
 use Rattle.records.specs.Extents.{physicalExtent}
-use Rattle.ranges.specs.Range.{requiresExactSize, copyExtent, arrayLayerCount}
+use Rattle.ranges.specs.Range.{requiresExactSize, copyExtent, arrayLayerCount, rangeChecked}
 use Rattle.ranges.specs.Laws.{RangeLaws}
 use Rattle.ranges.proofs.Accepted.{every-range}
 use Rattle.webgpu.specs.Formats.{Known, formatOf}
 use Rattle.webgpu.specs.WebGpu.{physicalSubresourceSize, CopiedWhole, Reading, WithLayers, OneLayer, IsWhole, TexelCopyTexture}
-use Rattle.webgpu.specs.Agreement.{Excepted, Ranges, RangesPart}
+use Rattle.webgpu.specs.Agreement.{GoesOn, SomeLayers, Ranges, RangesWithLayers}
 use Rattle.webgpu.proofs.Rows.{decided, row-of}
 use Rattle.webgpu.proofs.Sizes.{physical-extents}
 
@@ -37,6 +38,11 @@ exact-of t k (inr h) = go (isDepthStencil (t .format))
 whole-of : (t : Texture) → Known (t .format) → requiresExactSize t ≡ true → CopiedWhole t
 unfolding requiresExactSize
 whole-of t k e = ⊎-elim (λ d. inl (sym (row-of (t .format) k .depth-or-stencil) ∙ d)) (λ s. inr (ltb-true 1 (t .«sample_count») s)) (either (isDepthStencil (t .format)) (ltb 1 (t .«sample_count»)) e)
+
+-- what a reading refuses more than the rule
+abbrev pub Excepted : Reading → Texture → TexelCopyTextureInfo → Extent3d → Type 0
+Excepted WithLayers t view size = SomeLayers t view size
+Excepted OneLayer t view size = ⊥
 
 module _ (view : TexelCopyTextureInfo) (t : Texture) (size : Extent3d) (k : Known (t .format)) where
   abbrev ours : Extent3d
@@ -106,11 +112,27 @@ module _ (view : TexelCopyTextureInfo) (t : Texture) (size : Extent3d) (k : Know
         exact-height = λ e. sym (height ∙ sides reading (v .whole (whole-of t k e)) .1);
       }
 
-pub ranges : Ranges
-ranges reading view t side size k within = (
+pub ranges-by :
+    (reading : Reading) (view : TexelCopyTextureInfo) (t : Texture) (side : CopySide) (size : Extent3d) → Known (t .format)
+    → (Excepted reading t view size → ⊥) → GoesOn (rangeChecked view t side size) ↔ TexelCopyTexture reading t view size
+ranges-by reading view t side size k within = (
   λ g. valid view t size k reading within (every-range view t side size .went-on (g .0) (g .1) (g .2) .0),
   λ v. (copyExtent t size, arrayLayerCount t size, every-range view t side size .goes-on (laws view t size k reading v)),
 )
 
-pub ranges-part : RangesPart
-ranges-part t view size (c, other) v = other (ap (λ (e : Extent3d). e .«depth_or_array_layers») (v .whole c))
+pub no-layers-left : (t : Texture) (view : TexelCopyTextureInfo) (size : Extent3d) → TexelCopyTexture WithLayers t view size → SomeLayers t view size → ⊥
+no-layers-left t view size v (c, other) = other (ap (λ (e : Extent3d). e .«depth_or_array_layers») (v .whole c))
+
+pub ranges : Ranges
+ranges view t side size k = ranges-by OneLayer view t side size k (λ x. x)
+
+goes-with-layers :
+    (view : TexelCopyTextureInfo) (t : Texture) (side : CopySide) (size : Extent3d) → Known (t .format)
+    → TexelCopyTexture WithLayers t view size → GoesOn (rangeChecked view t side size)
+goes-with-layers view t side size k v = (copyExtent t size, arrayLayerCount t size, every-range view t side size .goes-on (laws view t size k WithLayers v))
+
+pub ranges-with-layers : RangesWithLayers
+ranges-with-layers view t side size k = (
+  λ g. ranges-by WithLayers view t side size k (g .1) .0 (g .0),
+  λ v. (goes-with-layers view t side size k v, no-layers-left t view size v),
+)

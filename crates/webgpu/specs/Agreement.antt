@@ -1,6 +1,5 @@
 -- How the planner's tables and rules agree with the standard's. What stands on the planner's side of a claim is what the claim judges;
--- every hypothesis is in the standard's words. An exception is a hypothesis, has a claim that the two part there, and an entry in
--- docs/DIFFERENCES.md.
+-- the rest is in the standard's words. Where a rule and the standard's part, the claim says exactly where; docs/DIFFERENCES.md has it.
 use mathlib.Core.Path.{_≡_}
 use mathlib.Core.Bool.{Bool, true, false, cond}
 use mathlib.Core.List.{List, [], _∷_}
@@ -83,23 +82,20 @@ LevelCounts = (d : TextureDimension) (e : Extent3d) → 0 < W.mipSide d e → W.
 abbrev pub GoesOn : RangeChecked → Type 0
 GoesOn r = (extent : CopyExtent) × (layers : ℕ) × (r ≡ R.GoOn extent layers)
 
--- exception to the reading with layers: some layers of a texture that is copied whole
+abbrev pub Ranges : Type 0
+Ranges =
+    (view : TexelCopyTextureInfo) (t : Texture) (side : CopySide) (size : Extent3d) → Known (t .format)
+    → GoesOn (rangeChecked view t side size) ↔ W.TexelCopyTexture W.OneLayer t view size
+
+-- read with layers, the standard refuses some layers of a texture that is copied whole, and that alone more
 abbrev pub SomeLayers : Texture → TexelCopyTextureInfo → Extent3d → Type 0
 SomeLayers t view size =
     W.CopiedWhole t × (W.physicalSubresourceSize t (view .«mip_level») .«depth_or_array_layers» ≡ size .«depth_or_array_layers» → ⊥)
 
-abbrev pub Excepted : W.Reading → Texture → TexelCopyTextureInfo → Extent3d → Type 0
-Excepted W.WithLayers t view size = SomeLayers t view size
-Excepted W.OneLayer t view size = ⊥
-
-abbrev pub Ranges : Type 0
-Ranges =
-    (reading : W.Reading) (view : TexelCopyTextureInfo) (t : Texture) (side : CopySide) (size : Extent3d) → Known (t .format)
-    → (Excepted reading t view size → ⊥) → GoesOn (rangeChecked view t side size) ↔ W.TexelCopyTexture reading t view size
-
--- there the standard, so read, refuses, whatever the planner does
-abbrev pub RangesPart : Type 0
-RangesPart = (t : Texture) (view : TexelCopyTextureInfo) (size : Extent3d) → SomeLayers t view size → W.TexelCopyTexture W.WithLayers t view size → ⊥
+abbrev pub RangesWithLayers : Type 0
+RangesWithLayers =
+    (view : TexelCopyTextureInfo) (t : Texture) (side : CopySide) (size : Extent3d) → Known (t .format)
+    → (GoesOn (rangeChecked view t side size) × (SomeLayers t view size → ⊥)) ↔ W.TexelCopyTexture W.WithLayers t view size
 
 -- ---- linear texture data
 
@@ -166,7 +162,7 @@ layersOf D1 depth = 1
 layersOf D2 depth = depth
 layersOf D3 depth = 1
 
--- exception: in 1D and 3D the standard has one subresource for a level, whatever z is; the Rust compares z
+-- in 1D and 3D the standard has one subresource for a level, whatever z is; the Rust compares z
 pub record MovesWithin (t : Texture) (src dst : TexelCopyTextureInfo) : Type 0 where
   pub unlayered : dimensionOf (t .dimension) ≡ D2 → ⊥
   pub level : src .«mip_level» ≡ dst .«mip_level»
@@ -177,16 +173,16 @@ module _ (t : Texture) (src dst : TexelCopyTextureInfo) (size : Extent3d) where
   abbrev pub AllowsWithin : Type 0
   AllowsWithin = sameTextureChecked src dst (t .format) (layersOf (dimensionOf (t .dimension)) (size .«depth_or_array_layers»)) ≡ C.GoOn
 
+-- the rule goes on exactly where the standard's sets are disjoint, and there
 abbrev pub SameTexture : Type 0
 SameTexture =
     (t : Texture) (src dst : TexelCopyTextureInfo) (size : Extent3d) → Known (t .format)
-    → (MovesWithin t src dst → ⊥) → AllowsWithin t src dst size ↔ W.Disjoint t src dst size
+    → AllowsWithin t src dst size ↔ (W.Disjoint t src dst size ⊎ MovesWithin t src dst)
 
--- there the rule goes on and the standard's sets meet
+-- where they are not
 abbrev pub SameTextureParts : Type 0
 SameTextureParts =
-    (t : Texture) (src dst : TexelCopyTextureInfo) (size : Extent3d) → Known (t .format)
-    → MovesWithin t src dst → AllowsWithin t src dst size × (W.Disjoint t src dst size → ⊥)
+    (t : Texture) (src dst : TexelCopyTextureInfo) (size : Extent3d) → MovesWithin t src dst → W.Disjoint t src dst size → ⊥
 
 -- ---- formats and aspects of copies between textures
 

@@ -1,6 +1,6 @@
 // The planner's tables and rules against the WebGPU standard's own. No code runs here: each function's contract is a claim, and
 // the check asks for its proof.
-ghost use Rattle.webgpu.specs.Agreement.{FormatTable, LogicalExtents, PhysicalExtents, LevelCounts, Ranges, RangesPart, LinearRules, BufferCopies, SameTexture, SameTextureParts, CompatibleFormats, AllAspects};
+ghost use Rattle.webgpu.specs.Agreement.{FormatTable, LogicalExtents, PhysicalExtents, LevelCounts, Ranges, RangesWithLayers, LinearRules, BufferCopies, SameTexture, SameTextureParts, CompatibleFormats, AllAspects};
 
 // Blocks, bytes, aspects and chosen aspects of every format are the standard's.
 pub fn tables_agree()
@@ -14,11 +14,11 @@ pub fn extents_agree()
     ensures counts { λ _. ⌜ LevelCounts ⌝ }
 {}
 
-// The range rule goes on exactly where the standard's rules on a texture's part hold, read without layers; read with them it parts
-// where some layers are copied of a texture that is copied whole.
+// The range rule goes on exactly where the standard's rules on a texture's part hold, read without layers; read with them the
+// standard refuses some layers of a texture that is copied whole, and that alone more.
 pub fn ranges_agree()
-    ensures agree { λ _. ⌜ Ranges ⌝ }
-    ensures part { λ _. ⌜ RangesPart ⌝ }
+    ensures one_layer { λ _. ⌜ Ranges ⌝ }
+    ensures layers { λ _. ⌜ RangesWithLayers ⌝ }
 {}
 
 // The rule of linear data goes on exactly where the standard's holds, with the standard's required bytes.
@@ -31,8 +31,8 @@ pub fn buffer_copies_agree()
     ensures { λ _. ⌜ BufferCopies ⌝ }
 {}
 
-// A texture is copied onto itself exactly where the standard's sets of subresources are disjoint, but for one level of a 1D or 3D
-// texture at two z.
+// A texture is copied onto itself exactly where the standard's sets of subresources are disjoint, and, where they are not, one level
+// of a 1D or 3D texture at two z.
 pub fn same_texture_agrees()
     ensures agree { λ _. ⌜ SameTexture ⌝ }
     ensures part { λ _. ⌜ SameTextureParts ⌝ }

@@ -29,7 +29,7 @@ use Rattle.buffer_copies.specs.declared.BufferPlanned.the-variants as B
 use Rattle.buffer_copies.specs.BufferCopies.{isShared, lacksIndexFact, sizeOf, planOf, fittingCopy, sizedCopy, bufferToBuffer}
 use Rattle.webgpu.specs.WebGpu.{Has, copySizeOf, CopyBufferToBuffer}
 use Rattle.webgpu_copies.specs.Bounds.{BufferInBounds}
-use Rattle.webgpu_copies.specs.WholeCopies.{GivesBufferPlan, Shared, IndexRestricted, BuffersExcepted, BufferToBuffer, BufferToBufferParts}
+use Rattle.webgpu_copies.specs.WholeCopies.{GivesBufferPlan, Shared, IndexRestricted, BuffersExcepted, BufferToBuffer}
 use Rattle.webgpu_copies.proofs.Lines.{flag-of, flag-by, opposite, tested, past-line, by-line, past-rule, by-rule}
 use Rattle.webgpu_copies.proofs.Records.{record-bounds}
 
@@ -220,19 +220,14 @@ module _ (device : Device) (i j : ℕ) (src dst : Buffer) (srcOffset dstOffset :
       (by (ltb (dst .size - dstOffset) n) (E.BufferEndOffsetOverrun dstOffset n (dst .size) Destination) _ (le-ltb (dst .size - dstOffset) n (omega (arith, d)))
       (planOf srcOffset dstOffset n, refl)))))))))))))
 
+module _ (device : Device) (i j : ℕ) (src dst : Buffer) (srcOffset dstOffset : ℕ) where
+  kept-by : {n : ℕ} → Accepted device i j src dst srcOffset dstOffset n → BuffersExcepted device src dst → ⊥
+  kept-by a (inl out) = out (a .src-bounds)
+  kept-by a (inr (inl out)) = out (a .dst-bounds)
+  kept-by a (inr (inr r)) = opposite _ (restricted-by device src dst r) (a .index-fact)
+
 pub buffer-to-buffer : BufferToBuffer
-buffer-to-buffer device i j src dst srcOffset dstOffset size kept = (
-  λ g. rw (← size-is src srcOffset size) (holds-of device i j src dst srcOffset dstOffset size g .rules),
-  λ v. plan-by device i j src dst srcOffset dstOffset size kept (rw (size-is src srcOffset size) v),
+buffer-to-buffer device i j src dst srcOffset dstOffset size = (
+  λ g. let a = holds-of device i j src dst srcOffset dstOffset size g in (rw (← size-is src srcOffset size) (a .rules), kept-by device i j src dst srcOffset dstOffset a),
+  λ v. plan-by device i j src dst srcOffset dstOffset size (v .1) (rw (size-is src srcOffset size) (v .0)),
 )
-
-pub buffer-to-buffer-parts : BufferToBufferParts
-buffer-to-buffer-parts device i j src dst srcOffset dstOffset size x g = go x
-  where
-    accepted : Accepted device i j src dst srcOffset dstOffset (sizeOf size (src .size - srcOffset))
-    accepted = holds-of device i j src dst srcOffset dstOffset size g
-
-    go : BuffersExcepted device src dst → ⊥
-    go (inl out) = out (accepted .src-bounds)
-    go (inr (inl out)) = out (accepted .dst-bounds)
-    go (inr (inr r)) = opposite _ (restricted-by device src dst r) (accepted .index-fact)

@@ -1,16 +1,18 @@
 -- The examples: the standard's rules one by one, and the planner's answer by the claims on whole copies.
 -- Assumes nothing.
 use mathlib.Core.Path.{_≡_, refl, sym, ap, _∙_}
-use mathlib.Core.Bool.{true, false}
+use mathlib.Core.Bool.{Bool, true, false, cond}
+use mathlib.Core.List.{List}
 use mathlib.Core.Logic.{_⊎_, inl, inr}
-use Prim.Native.Nat.{ℕ, _+_, _%_, _≤_, _<_}
+use Prim.Native.Nat.{ℕ, _+_, _/_, _%_, _≤_, _<_}
 use native.Mathlib.Omega.{arith}
-use native.Mathlib.Nat.{mod-one}
+use native.Mathlib.Nat.{mod-one, zero-mod}
 use Rattle.checks.specs.Checks.{stop-if}
 use Rattle.measures.specs.declared.Extent3d.{Extent3d}
-use Rattle.measures.specs.Measure.{multiple}
+use Rattle.measures.specs.declared.OptionU32.{OptionU32}
 use Rattle.measures.specs.declared.OptionU32.the-variants.{Given, Absent}
 use Rattle.measures.specs.declared.OptionU64.the-variants as L
+use Rattle.measures.specs.Measure.{multiple}
 use Rattle.formats.specs.declared.TextureAspect.{TextureAspect}
 use Rattle.formats.specs.declared.TextureAspect.the-variants.{All, DepthOnly}
 use Rattle.levels.specs.declared.TextureDimension.the-variants.{D2}
@@ -20,17 +22,17 @@ use Rattle.records.specs.declared.Device.{Device}
 use Rattle.records.specs.declared.Texture.{Texture}
 use Rattle.records.specs.Bounds as records
 use Rattle.records.specs.Bounds.{bufferInBounds, textureInBounds}
-use Rattle.webgpu.specs.Formats.{Color, formats, formatOf, anyDepthOrStencil, isDepthOrStencil, named, dimensionOf, copyCompatible}
-use Rattle.webgpu.specs.WebGpu.{logicalSize, toBlock, physicalSubresourceSize, CopiedWhole, Reading, WithLayers, OneLayer, IsWhole, TexelCopyTexture, requiredBytesInCopy, taken, blockBytes}
+use Rattle.webgpu.specs.Formats.{Color, formats, Known, formatOf, anyDepthOrStencil, isDepthOrStencil, named, dimensionOf, srgbPairs, paired, copyCompatible}
+use Rattle.webgpu.specs.WebGpu.{Has, logicalSize, toBlock, physicalSubresourceSize, CopiedWhole, Reading, WithLayers, OneLayer, IsWhole, TexelCopyTexture, requiredBytesInCopy, taken, validOne, blockBytes, LinearBox, Disjoint}
 use Rattle.webgpu.specs.Agreement.{MovesWithin, SomeLayers}
 use Rattle.webgpu_copies.specs.Bounds.{BufferInBounds, TextureInBounds}
-use Rattle.webgpu_copies.specs.WholeCopies.{Copy, planned, GivesPlan, StandardCopy, Compared, CopyExcepted, Rules}
-use Rattle.webgpu_copies.specs.Examples.{device, buffer, extent, texture, viewAt, StandardBuffers, Standard, tooWide, depthless, colorDepth, layerOne, noLayer, side, OntoZ1, StandardOntoZ1, Examples}
+use Rattle.webgpu_copies.specs.WholeCopies.{Copy, planned, GivesPlan, StandardCopy, Compared, CopyExcepted, Rules, OutOfBounds}
+use Rattle.webgpu_copies.specs.Examples.{device, buffer, extent, texture, viewAt, StandardBuffers, texel, tooWide, tooLarge, depthless, colorDepth, oneLayer, noLayer, starred, OnlyStandard, OnlyWithoutLayers, side, OntoZ1, StandardOntoZ1, OnlyPlanned, Examples}
 use Rattle.webgpu_copies.proofs.Lines.{opposite}
 use Rattle.webgpu_copies.proofs.Records.{record-bounds}
-use Rattle.webgpu_copies.proofs.Buffers.{buffer-to-buffer-parts}
-use Rattle.webgpu_copies.proofs.Textures.{copies-agree, copies-part}
-use Rattle.webgpu_copies.proofs.TextureCopies.{textures-part}
+use Rattle.webgpu_copies.proofs.Buffers.{buffer-to-buffer}
+use Rattle.webgpu_copies.proofs.Textures.{copies-agree, copies-agree-with-layers}
+use Rattle.webgpu_copies.proofs.TextureCopies.{textures-agree, textures-agree-with-layers, onto-itself-parts}
 
 -- ---- between buffers
 
@@ -40,12 +42,11 @@ large = record { different = refl; src-usage = refl; dst-usage = refl; size-alig
 indexed : StandardBuffers (buffer 4 20) (buffer 4 40)
 indexed = record { different = refl; src-usage = refl; dst-usage = refl; size-aligned = refl; src-aligned = refl; dst-aligned = refl; src-inside = omega arith; dst-inside = omega arith }
 
--- ---- from a texture into a buffer
+too-large : (usage : ℕ) → BufferInBounds (buffer 268435457 usage) → ⊥
+too-large usage b = omega (arith, b .size)
 
-absent : {n : ℕ} {C : Type 0} → Absent ≡ Given n → C
-absent e = let z : _≡_ {A = ℕ} 0 1 = cc in absurd (omega arith)
+-- ---- a view of the first level at x 0, y 0, of blocks of one texel
 
--- a view of the first level at x 0, y 0, of blocks of one texel
 first-level :
     (reading : Reading) (format dimension z : ℕ) (size copied : Extent3d) (aspect : TextureAspect) → formatOf format .blockWidth ≡ 1 → formatOf format .blockHeight ≡ 1
     → let t = texture format dimension size in
@@ -61,56 +62,124 @@ first-level reading format dimension z size copied aspect w h whole x y deep =
       range = record { x = omega arith; y = omega arith; z = deep; width = rw w (mod-one _); height = rw h (mod-one _) };
     }
 
--- one texel of a texture of one texel
+-- a color format of one sample is not copied whole
+not-whole : {C : Type 0} (size : Extent3d) → CopiedWhole (texture 0 2 size) → C
+unfolding formats formatOf anyDepthOrStencil isDepthOrStencil
+not-whole size (inl e) = opposite false e refl
+not-whole size (inr h) = absurd (omega arith)
+
 one-texel : (reading : Reading) → IsWhole reading (extent 1 1 1) (extent 1 1 1)
 one-texel WithLayers = refl
 one-texel OneLayer = (refl, refl)
 
-depthless-holds : Standard depthless
-unfolding formats formatOf anyDepthOrStencil isDepthOrStencil named dimensionOf logicalSize toBlock physicalSubresourceSize taken blockBytes requiredBytesInCopy
-depthless-holds reading =
+-- ---- between a buffer and a texture
+
+absent : {n : ℕ} {C : Type 0} → Absent ≡ Given n → C
+absent e = let z : _≡_ {A = ℕ} 0 1 = cc in absurd (omega arith)
+
+both-usages : (reads : Bool) → Has 12 (cond reads 8 4) × Has 3 (cond reads 1 2)
+both-usages true = (refl, refl)
+both-usages false = (refl, refl)
+
+texel-holds :
+    (reading : Reading) (reads : Bool) (d : Device) (bytes format : ℕ) (size : Extent3d) (z : ℕ) (aspect : TextureAspect) (copied : Extent3d)
+    → TexelCopyTexture reading (texture format 2 size) (viewAt z aspect) copied → validOne reads (taken format aspect) ≡ true
+    → LinearBox (texture format 2 size) aspect (texel d bytes format size z aspect copied .layout) copied bytes
+    → StandardCopy reading reads (texel d bytes format size z aspect copied)
+texel-holds reading reads d bytes format size z aspect copied v a l =
     record {
-      buffer-usage = refl;
-      texture-usage = refl;
-      view-valid = first-level reading 16 2 0 (extent 1 1 1) (extent 1 1 1) All refl refl (λ w. one-texel reading) (omega arith) (omega arith) (omega arith);
-      suits = record { one-sample = refl; allowed = refl; layout-aligned = λ a. record { depth-stencil = λ e. refl; other = λ e. refl; row = λ n e. absent e } };
-      linear = record { rows-given = λ h. absurd (omega arith); images-given = λ h. absurd (omega arith); row-fits = tt; image-fits = tt; inside = omega arith };
+      buffer-usage = both-usages reads .0;
+      texture-usage = both-usages reads .1;
+      view-valid = v;
+      suits = record { one-sample = refl; allowed = a; layout-aligned = λ e. record { depth-stencil = λ e. refl; other = λ e. zero-mod (blockBytes format aspect); row = λ n e. absent e } };
+      linear = l;
     }
 
--- a color format of one sample is not copied whole
-not-whole : {C : Type 0} → CopiedWhole (texture 0 2 (extent 8193 1 1)) → C
+-- one row of one image needs no strides
+one-row : (bytes format : ℕ) (size : Extent3d) (aspect : TextureAspect) (d : Device) (z : ℕ) (copied : Extent3d) → copied .height ≡ 1 → copied .«depth_or_array_layers» ≤ 1 → formatOf format .blockHeight ≡ 1
+    → 0 + requiredBytesInCopy (texel d bytes format size z aspect copied .layout) (copied .width / formatOf format .blockWidth) (copied .height / formatOf format .blockHeight) (blockBytes format aspect) (copied .«depth_or_array_layers») ≤ bytes
+    → LinearBox (texture format 2 size) aspect (texel d bytes format size z aspect copied .layout) copied bytes
+one-row bytes format size aspect d z copied h k e fits =
+    let one : copied .height / formatOf format .blockHeight ≡ 1 = rw (h, e) in
+    record { rows-given = λ m. absurd (omega (arith, one)); images-given = λ m. absurd (omega arith); row-fits = tt; image-fits = tt; inside = fits }
+
+allowed : (reads : Bool) → (validOne reads (taken 0 All) ≡ true) × (validOne reads (taken 16 All) ≡ true) × (validOne reads (taken 0 DepthOnly) ≡ true) × (validOne reads (taken 15 All) ≡ true)
+unfolding formats formatOf anyDepthOrStencil isDepthOrStencil named taken
+allowed true = (refl, refl, refl, refl)
+allowed false = (refl, refl, refl, refl)
+
+module _ (reading : Reading) (reads : Bool) where
+  wide-holds : StandardCopy reading reads tooWide
+  unfolding formats formatOf anyDepthOrStencil isDepthOrStencil named dimensionOf logicalSize toBlock physicalSubresourceSize taken blockBytes requiredBytesInCopy
+  wide-holds =
+      texel-holds reading reads (device true true) 1 0 (extent 8193 1 1) 0 All (extent 1 1 1)
+      (first-level reading 0 2 0 (extent 8193 1 1) (extent 1 1 1) All refl refl (not-whole (extent 8193 1 1)) (omega arith) (omega arith) (omega arith))
+      (allowed reads .0) (one-row 1 0 (extent 8193 1 1) All (device true true) 0 (extent 1 1 1) refl (omega arith) refl (omega arith))
+
+  large-holds : StandardCopy reading reads tooLarge
+  unfolding formats formatOf anyDepthOrStencil isDepthOrStencil named dimensionOf logicalSize toBlock physicalSubresourceSize taken blockBytes requiredBytesInCopy
+  large-holds =
+      texel-holds reading reads (device true true) 268435457 0 (extent 1 1 1) 0 All (extent 1 1 1)
+      (first-level reading 0 2 0 (extent 1 1 1) (extent 1 1 1) All refl refl (not-whole (extent 1 1 1)) (omega arith) (omega arith) (omega arith))
+      (allowed reads .0) (one-row 268435457 0 (extent 1 1 1) All (device true true) 0 (extent 1 1 1) refl (omega arith) refl (omega arith))
+
+  depth-holds : StandardCopy reading reads depthless
+  unfolding formats formatOf anyDepthOrStencil isDepthOrStencil named dimensionOf logicalSize toBlock physicalSubresourceSize taken blockBytes requiredBytesInCopy
+  depth-holds =
+      texel-holds reading reads (device false true) 2 16 (extent 1 1 1) 0 All (extent 1 1 1)
+      (first-level reading 16 2 0 (extent 1 1 1) (extent 1 1 1) All refl refl (λ w. one-texel reading) (omega arith) (omega arith) (omega arith))
+      (allowed reads .1) (one-row 2 16 (extent 1 1 1) All (device false true) 0 (extent 1 1 1) refl (omega arith) refl (omega arith))
+
+  color-holds : StandardCopy reading reads colorDepth
+  unfolding formats formatOf anyDepthOrStencil isDepthOrStencil named dimensionOf logicalSize toBlock physicalSubresourceSize taken blockBytes requiredBytesInCopy
+  color-holds =
+      texel-holds reading reads (device true true) 1 0 (extent 1 1 1) 0 DepthOnly (extent 1 1 1)
+      (first-level reading 0 2 0 (extent 1 1 1) (extent 1 1 1) DepthOnly refl refl (not-whole (extent 1 1 1)) (omega arith) (omega arith) (omega arith))
+      (allowed reads .2) (one-row 1 0 (extent 1 1 1) DepthOnly (device true true) 0 (extent 1 1 1) refl (omega arith) refl (omega arith))
+
+-- the planner's refusal, by what is excepted
+refused-by : (c : Copy) → Compared c → CopyExcepted c → (reads : Bool) → GivesPlan (planned reads c) → ⊥
+refused-by c r x reads g = copies-agree reads c r .0 g .1 x
+
+compared : (c : Copy) → c .texture .format < 21 → c .layout .«bytes_per_row» ≡ Absent → c .layout .«rows_per_image» ≡ Absent → Compared c
+unfolding formats
+compared c k b r = record { known = k; bytes-field = rw b tt; rows-field = rw r tt }
+
+too-wide : (layers : ℕ) → TextureInBounds (texture 0 2 (extent 8193 1 layers)) → ⊥
+unfolding dimensionOf
+too-wide layers b = omega (arith, b .size .0 .1)
+
+color-excepted : CopyExcepted colorDepth
 unfolding formats formatOf anyDepthOrStencil isDepthOrStencil
-not-whole (inl e) = opposite false e refl
-not-whole (inr h) = absurd (omega arith)
+color-excepted = inr (inr (inr (refl, λ e. let z : _≡_ {A = ℕ} 0 1 = cc in omega arith)))
 
-wide-holds : Standard tooWide
-unfolding formats formatOf anyDepthOrStencil isDepthOrStencil named dimensionOf logicalSize toBlock physicalSubresourceSize taken blockBytes requiredBytesInCopy
-wide-holds reading =
-    record {
-      buffer-usage = refl;
-      texture-usage = refl;
-      view-valid = first-level reading 0 2 0 (extent 8193 1 1) (extent 1 1 1) All refl refl not-whole (omega arith) (omega arith) (omega arith);
-      suits = record { one-sample = refl; allowed = refl; layout-aligned = λ a. record { depth-stencil = λ e. refl; other = λ e. refl; row = λ n e. absent e } };
-      linear = record { rows-given = λ h. absurd (omega arith); images-given = λ h. absurd (omega arith); row-fits = tt; image-fits = tt; inside = omega arith };
-    }
+depth-excepted : CopyExcepted depthless
+unfolding formats formatOf anyDepthOrStencil isDepthOrStencil
+depth-excepted = inr (inr (inl (refl, refl)))
 
-color-holds : Standard colorDepth
-unfolding formats formatOf anyDepthOrStencil isDepthOrStencil named dimensionOf logicalSize toBlock physicalSubresourceSize taken blockBytes requiredBytesInCopy
-color-holds reading =
-    record {
-      buffer-usage = refl;
-      texture-usage = refl;
-      view-valid = first-level reading 0 2 0 (extent 1 1 1) (extent 1 1 1) DepthOnly refl refl (λ w. one-texel reading) (omega arith) (omega arith) (omega arith);
-      suits = record { one-sample = refl; allowed = refl; layout-aligned = λ a. record { depth-stencil = λ e. refl; other = λ e. refl; row = λ n e. absent e } };
-      linear = record { rows-given = λ h. absurd (omega arith); images-given = λ h. absurd (omega arith); row-fits = tt; image-fits = tt; inside = omega arith };
-    }
+-- ---- some layers
+
+module _ (reads : Bool) where
+  layer-holds : StandardCopy OneLayer reads oneLayer
+  unfolding formats formatOf anyDepthOrStencil isDepthOrStencil named dimensionOf logicalSize toBlock physicalSubresourceSize taken blockBytes requiredBytesInCopy
+  layer-holds =
+      texel-holds OneLayer reads (device true true) 1 15 (extent 1 1 2) 1 All (extent 1 1 1)
+      (first-level OneLayer 15 2 1 (extent 1 1 2) (extent 1 1 1) All refl refl (λ w. (refl, refl)) (omega arith) (omega arith) (omega arith))
+      (allowed reads .3) (one-row 1 15 (extent 1 1 2) All (device true true) 1 (extent 1 1 1) refl (omega arith) refl (omega arith))
+
+  none-holds : StandardCopy OneLayer reads noLayer
+  unfolding formats formatOf anyDepthOrStencil isDepthOrStencil named dimensionOf logicalSize toBlock physicalSubresourceSize taken blockBytes requiredBytesInCopy
+  none-holds =
+      texel-holds OneLayer reads (device true true) 0 15 (extent 1 1 2) 0 All (extent 1 1 0)
+      (first-level OneLayer 15 2 0 (extent 1 1 2) (extent 1 1 0) All refl refl (λ w. (refl, refl)) (omega arith) (omega arith) (omega arith))
+      (allowed reads .3) (one-row 0 15 (extent 1 1 2) All (device true true) 0 (extent 1 1 0) refl (omega arith) refl (omega arith))
 
 whole-rows : (n : ℕ) → Given 256 ≡ Given n → n % 256 ≡ 0
 whole-rows n e = let h : 256 ≡ n = cc in rw (← h)
 
-layer-holds : StandardCopy OneLayer true layerOne
+starred-holds : StandardCopy OneLayer true starred
 unfolding formats formatOf anyDepthOrStencil isDepthOrStencil named dimensionOf logicalSize toBlock physicalSubresourceSize taken blockBytes requiredBytesInCopy
-layer-holds =
+starred-holds =
     record {
       buffer-usage = refl;
       texture-usage = refl;
@@ -119,131 +188,124 @@ layer-holds =
       linear = record { rows-given = λ h. tt; images-given = λ h. absurd (omega arith); row-fits = omega arith; image-fits = tt; inside = omega arith };
     }
 
-none-holds : StandardCopy OneLayer true noLayer
-unfolding formats formatOf anyDepthOrStencil isDepthOrStencil named dimensionOf logicalSize toBlock physicalSubresourceSize taken blockBytes requiredBytesInCopy
-none-holds =
-    record {
-      buffer-usage = refl;
-      texture-usage = refl;
-      view-valid = first-level OneLayer 15 2 0 (extent 1 1 2) (extent 1 1 0) All refl refl (λ w. (refl, refl)) (omega arith) (omega arith) (omega arith);
-      suits = record { one-sample = refl; allowed = refl; layout-aligned = λ a. record { depth-stencil = λ e. refl; other = λ e. refl; row = λ n e. absent e } };
-      linear = record { rows-given = λ h. absurd (omega arith); images-given = λ h. absurd (omega arith); row-fits = tt; image-fits = tt; inside = omega arith };
-    }
-
--- ---- the planner's plan, where nothing is excepted
-
--- a texture of document 01's bounds
-in-bounds : (t : Texture) → textureInBounds t ≡ true → (TextureInBounds t → ⊥) → ⊥
-in-bounds t e out = out (record-bounds .textures t .0 e)
-
+-- nothing is excepted of a copy of document 01's bounds with both facts and all aspects
 kept : (c : Copy) → bufferInBounds (c .buffer) ≡ true → textureInBounds (c .texture) ≡ true → c .device ≡ device true true → c .view .aspect ≡ All → CopyExcepted c → ⊥
 kept c b t d a (inl out) = out (record-bounds .buffers (c .buffer) .0 b)
 kept c b t d a (inr (inl out)) = out (record-bounds .textures (c .texture) .0 t)
 kept c b t d a (inr (inr (inl r))) = opposite true refl (sym (ap (λ (x : Device). x .«depth_texture_and_buffer_copies») d) ∙ r .1)
 kept c b t d a (inr (inr (inr r))) = r .1 a
 
-planned-by : (c : Copy) → Compared c → bufferInBounds (c .buffer) ≡ true → textureInBounds (c .texture) ≡ true → c .device ≡ device true true → c .view .aspect ≡ All → StandardCopy OneLayer true c → GivesPlan (planned true c)
-planned-by c r b t d a v = copies-agree OneLayer true c r (kept c b t d a) (λ x. x) .1 v
+only-without :
+    (reads : Bool) (c : Copy) → Compared c → (CopyExcepted c → ⊥) → StandardCopy OneLayer reads c → SomeLayers (c .texture) (c .view) (c .size) → OnlyWithoutLayers reads c
+only-without reads c r x v some =
+    record { plans = copies-agree reads c r .1 (v, x); accepted = v; refused = λ w. copies-agree-with-layers reads c r .1 (w, x) .1 some }
 
-layer-planned : GivesPlan (planned true layerOne)
-unfolding records.textureInBounds records.fieldsInBounds records.samplesInBounds records.formatSuits records.bufferInBounds records.within records.sizeInBounds records.levelsInBounds records.mipSide records.mayBeMultisampled records.dimensionSuits records.sidesWhole records.planesSuit levels.dimensionOf levels.maxMipLevels levels.halvings sheet.isFormat sheet.formats sheet.rowOf sheet.blockWidth sheet.blockHeight sheet.isMultiPlanar multiple stop-if formats
-layer-planned = planned-by layerOne (record { known = omega arith; bytes-field = omega arith; rows-field = tt }) refl refl refl refl layer-holds
-
-none-planned : GivesPlan (planned true noLayer)
-unfolding records.textureInBounds records.fieldsInBounds records.samplesInBounds records.formatSuits records.bufferInBounds records.within records.sizeInBounds records.levelsInBounds records.mipSide records.mayBeMultisampled records.dimensionSuits records.sidesWhole records.planesSuit levels.dimensionOf levels.maxMipLevels levels.halvings sheet.isFormat sheet.formats sheet.rowOf sheet.blockWidth sheet.blockHeight sheet.isMultiPlanar multiple stop-if formats
-none-planned = planned-by noLayer (record { known = omega arith; bytes-field = tt; rows-field = tt }) refl refl refl refl none-holds
-
--- two layers, and one or none of them copied
-some-layers : (c : Copy) → StandardCopy WithLayers true c → SomeLayers (c .texture) (c .view) (c .size) → ⊥
-some-layers c v x = copies-part .standard true c x v
-
-layer-left : SomeLayers (layerOne .texture) (layerOne .view) (layerOne .size)
+some-layers : SomeLayers (oneLayer .texture) (oneLayer .view) (oneLayer .size) × SomeLayers (noLayer .texture) (noLayer .view) (noLayer .size) × SomeLayers (starred .texture) (starred .view) (starred .size)
 unfolding formats formatOf anyDepthOrStencil isDepthOrStencil dimensionOf logicalSize toBlock physicalSubresourceSize
-layer-left = (inl refl, λ e. omega arith)
+some-layers = ((inl refl, λ e. omega arith), (inl refl, λ e. omega arith), (inl refl, λ e. omega arith))
 
-none-left : SomeLayers (noLayer .texture) (noLayer .view) (noLayer .size)
-unfolding formats formatOf anyDepthOrStencil isDepthOrStencil dimensionOf logicalSize toBlock physicalSubresourceSize
-none-left = (inl refl, λ e. omega arith)
+-- ---- the records of the examples that are accepted
 
--- ---- one texture onto itself
+record Bounded : Type 0 where
+  stencil : textureInBounds (texture 15 2 (extent 1 1 2)) ≡ true
+  depth : textureInBounds (texture 19 2 (extent 8 8 2)) ≡ true
+  volume : textureInBounds (texture 0 3 (extent 1 1 2)) ≡ true
+  larger : textureInBounds (texture 0 3 (extent 4 4 4)) ≡ true
+  line : textureInBounds (texture 0 1 (extent 1 1 1)) ≡ true
+  one : bufferInBounds (buffer 1 12) ≡ true
+  none : bufferInBounds (buffer 0 12) ≡ true
+  many : bufferInBounds (buffer 4096 12) ≡ true
 
-abbrev volume : Texture
-volume = texture 0 3 (extent 4 4 4)
+bounded : Bounded
+unfolding records.textureInBounds records.fieldsInBounds records.samplesInBounds records.formatSuits records.bufferInBounds records.within records.sizeInBounds records.levelsInBounds records.mipSide records.mayBeMultisampled records.dimensionSuits records.sidesWhole records.planesSuit levels.dimensionOf levels.maxMipLevels levels.halvings sheet.isFormat sheet.formats sheet.rowOf sheet.blockWidth sheet.blockHeight sheet.isMultiPlanar multiple stop-if
+bounded = record { stencil = refl; depth = refl; volume = refl; larger = refl; line = refl; one = refl; none = refl; many = refl }
 
-abbrev line : Texture
-line = texture 0 1 (extent 1 1 1)
+-- ---- between textures
 
--- a texture of r8unorm onto itself, by every rule but the last
-r8unorm-rules :
-    (dimension : ℕ) (size copied : Extent3d) → let level = physicalSubresourceSize (texture 0 dimension size) 0 in
-    (level .width ≡ copied .width) × (level .height ≡ copied .height) → 1 + copied .«depth_or_array_layers» ≤ level .«depth_or_array_layers»
-    → Rules 0 0 (side (texture 0 dimension size) 0) (side (texture 0 dimension size) 1) copied OneLayer
-unfolding formats formatOf named copyCompatible
-r8unorm-rules dimension size copied whole deep =
-    let valid : (z : ℕ) → z ≤ 1 → TexelCopyTexture OneLayer (texture 0 dimension size) (viewAt z All) copied = λ z l. first-level OneLayer 0 dimension z size copied All refl refl (λ w. whole) (omega arith) (omega arith) (omega arith) in
-    record { src-valid = valid 0 (omega arith); dst-valid = valid 1 (omega arith); src-usage = refl; dst-usage = refl; samples = refl; compatible = refl; src-aspects = refl; dst-aspects = refl }
-
-volume-rules : Rules 0 0 (side volume 0) (side volume 1) (extent 4 4 2) OneLayer
-unfolding formats formatOf dimensionOf logicalSize toBlock physicalSubresourceSize
-volume-rules = r8unorm-rules 3 (extent 4 4 4) (extent 4 4 2) (refl, refl) (omega arith)
-
-line-rules : Rules 0 0 (side line 0) (side line 1) (extent 1 1 0) OneLayer
-unfolding formats formatOf dimensionOf logicalSize toBlock physicalSubresourceSize
-line-rules = r8unorm-rules 1 (extent 1 1 1) (extent 1 1 0) (refl, refl) (omega arith)
+-- every rule but the last, of a copy from z 0 to z 1 of one texture or of two that are alike
+rules-hold :
+    (reading : Reading) (other format dimension : ℕ) (size copied : Extent3d) → formatOf format .blockWidth ≡ 1 → formatOf format .blockHeight ≡ 1 → copyCompatible format format ≡ true
+    → named (formatOf format) All ≡ formatOf format .parts
+    → let level = physicalSubresourceSize (texture format dimension size) 0 in
+    (CopiedWhole (texture format dimension size) → IsWhole reading level copied) → copied .width ≤ level .width → copied .height ≤ level .height → 1 + copied .«depth_or_array_layers» ≤ level .«depth_or_array_layers»
+    → Rules 0 other (side (texture format dimension size) 0) (side (texture format dimension size) 1) copied reading
+rules-hold reading other format dimension size copied w h compatible all whole x y deep =
+    let valid : (z : ℕ) → z ≤ 1 → TexelCopyTexture reading (texture format dimension size) (viewAt z All) copied = λ z l. first-level reading format dimension z size copied All w h whole x y (omega arith) in
+    record { src-valid = valid 0 (omega arith); dst-valid = valid 1 (omega arith); src-usage = refl; dst-usage = refl; samples = refl; compatible = compatible; src-aspects = all; dst-aspects = all }
 
 -- one level, at two z, of a texture without layers
 moves : (t : Texture) → (dimensionOf (t .dimension) ≡ D2 → ⊥) → t .format ≡ 0 → MovesWithin t (viewAt 0 All) (viewAt 1 All)
 unfolding formats formatOf named
-moves t u f =
-    record {
-      unlayered = u;
-      level = refl;
-      moved = λ e. omega arith;
-      shared = rw f (Color, inl refl, inl refl);
-    }
+moves t u f = record { unlayered = u; level = refl; moved = λ e. omega arith; shared = rw f (Color, inl refl, inl refl) }
+
+in-both : (t : Texture) → textureInBounds t ≡ true → ((TextureInBounds t → ⊥) ⊎ (TextureInBounds t → ⊥)) → ⊥
+in-both t e (inl out) = out (record-bounds .textures t .0 e)
+in-both t e (inr out) = out (record-bounds .textures t .0 e)
+
+only-planned : (t : Texture) (size : Extent3d) → t .format ≡ 0 → textureInBounds t ≡ true → (dimensionOf (t .dimension) ≡ D2 → ⊥) → Rules 0 0 (side t 0) (side t 1) size OneLayer → OnlyPlanned t size
+unfolding formats
+only-planned t size f b u v =
+    let known : t .format < 21 = omega arith in
+    let m = moves t u f in (
+      textures-agree 0 0 (side t 0) (side t 1) size known known .1 (v, λ e. inr m, in-both t b),
+      λ reading w. onto-itself-parts 0 0 (side t 0) (side t 1) size reading refl m w,
+    )
 
 not-layered : (dimensionOf 3 ≡ D2 → ⊥) × (dimensionOf 1 ≡ D2 → ⊥)
 unfolding dimensionOf
 not-layered = (λ e. let z : _≡_ {A = ℕ} 0 1 = cc in omega arith, λ e. let z : _≡_ {A = ℕ} 0 1 = cc in omega arith)
 
-onto : (t : Texture) (size : Extent3d) → t .format ≡ 0 → textureInBounds t ≡ true → (dimensionOf (t .dimension) ≡ D2 → ⊥) → Rules 0 0 (side t 0) (side t 1) size OneLayer → OntoZ1 t size × ((reading : Reading) → StandardOntoZ1 t size reading → ⊥)
-unfolding formats
-onto t size f b u v =
-    let known : t .format < 21 = omega arith in
-    let p = textures-part .onto-itself 0 0 (side t 0) (side t 1) size known known (in-both t b) (refl, moves t u f) in
-    (p .0 .1 v, p .1)
-  where
-    in-both : (t : Texture) → textureInBounds t ≡ true → ((TextureInBounds t → ⊥) ⊎ (TextureInBounds t → ⊥)) → ⊥
-    in-both t e (inl out) = in-bounds t e out
-    in-both t e (inr out) = in-bounds t e out
+volume-rules : Rules 0 0 (side (texture 0 3 (extent 1 1 2)) 0) (side (texture 0 3 (extent 1 1 2)) 1) (extent 1 1 1) OneLayer
+unfolding formats formatOf named dimensionOf logicalSize toBlock physicalSubresourceSize copyCompatible
+volume-rules = rules-hold OneLayer 0 0 3 (extent 1 1 2) (extent 1 1 1) refl refl refl refl (λ w. (refl, refl)) (omega arith) (omega arith) (omega arith)
 
-volume-bounds : (textureInBounds volume ≡ true) × (textureInBounds line ≡ true)
-unfolding records.textureInBounds records.fieldsInBounds records.samplesInBounds records.formatSuits records.within records.sizeInBounds records.levelsInBounds records.mipSide records.mayBeMultisampled records.dimensionSuits records.sidesWhole records.planesSuit levels.dimensionOf levels.maxMipLevels levels.halvings sheet.isFormat sheet.formats sheet.rowOf sheet.blockWidth sheet.blockHeight sheet.isMultiPlanar multiple stop-if
-volume-bounds = (refl, refl)
+starred-rules : Rules 0 0 (side (texture 0 3 (extent 4 4 4)) 0) (side (texture 0 3 (extent 4 4 4)) 1) (extent 4 4 2) OneLayer
+unfolding formats formatOf named dimensionOf logicalSize toBlock physicalSubresourceSize copyCompatible
+starred-rules = rules-hold OneLayer 0 0 3 (extent 4 4 4) (extent 4 4 2) refl refl refl refl (λ w. (refl, refl)) (omega arith) (omega arith) (omega arith)
+
+line-rules : Rules 0 0 (side (texture 0 1 (extent 1 1 1)) 0) (side (texture 0 1 (extent 1 1 1)) 1) (extent 1 1 0) OneLayer
+unfolding formats formatOf named dimensionOf logicalSize toBlock physicalSubresourceSize copyCompatible
+line-rules = rules-hold OneLayer 0 0 1 (extent 1 1 1) (extent 1 1 0) refl refl refl refl (λ w. (refl, refl)) (omega arith) (omega arith) (omega arith)
+
+wide-rules : (reading : Reading) → Rules 0 1 (side (texture 0 2 (extent 8193 1 2)) 0) (side (texture 0 2 (extent 8193 1 2)) 1) (extent 1 1 1) reading
+unfolding formats formatOf named dimensionOf logicalSize toBlock physicalSubresourceSize copyCompatible
+wide-rules reading = rules-hold reading 1 0 2 (extent 8193 1 2) (extent 1 1 1) refl refl refl refl (not-whole (extent 8193 1 2)) (omega arith) (omega arith) (omega arith)
+
+layer-rules : Rules 0 1 (side (texture 15 2 (extent 1 1 2)) 0) (side (texture 15 2 (extent 1 1 2)) 1) (extent 1 1 1) OneLayer
+unfolding formats formatOf named dimensionOf logicalSize toBlock physicalSubresourceSize copyCompatible
+layer-rules = rules-hold OneLayer 1 15 2 (extent 1 1 2) (extent 1 1 1) refl refl refl refl (λ w. (refl, refl)) (omega arith) (omega arith) (omega arith)
+
+-- two textures are not one
+two : {C : Type 0} → _≡_ {A = Bool} false true → C
+two e = opposite false e refl
 
 -- ---- all of them
 
-known : (depthless .texture .format < 21) × (colorDepth .texture .format < 21)
-known = (omega arith, omega arith)
-
-too-wide : TextureInBounds (tooWide .texture) → ⊥
-unfolding dimensionOf
-too-wide b = omega (arith, b .size .0 .1)
-
-too-large : BufferInBounds (buffer 268435457 4) → ⊥
-too-large b = omega (arith, b .size)
+below : (0 < 21) × (15 < 21) × (16 < 21) × (19 < 21)
+below = (omega arith, omega arith, omega arith, omega arith)
 
 pub examples : Examples
-unfolding formats formatOf anyDepthOrStencil isDepthOrStencil
+unfolding formats
 examples =
+    let stencil = bounded .stencil in
+    let layered = below .1 in
     record {
-      large = (large, buffer-to-buffer-parts (device true true) 0 1 (buffer 268435457 4) (buffer 4 8) 0 0 (L.Given 4) (inl too-large));
-      wide = (wide-holds, copies-part .planner true tooWide (known .1) (inr (inl too-wide)));
-      index = (indexed, buffer-to-buffer-parts (device true false) 0 1 (buffer 4 20) (buffer 4 40) 0 0 (L.Given 4) (inr (inr (record { fact = refl; index = inl refl; shared = inr (inl refl) }))));
-      depth = (depthless-holds, copies-part .planner true depthless (known .0) (inr (inr (inl (refl, refl)))));
-      color = (color-holds, copies-part .planner true colorDepth (known .1) (inr (inr (inr (refl, λ e. let z : _≡_ {A = ℕ} 0 1 = cc in omega arith)))));
-      layer = (layer-planned, layer-holds, λ v. some-layers layerOne v layer-left);
-      layers = (none-planned, none-holds, λ v. some-layers noLayer v none-left);
-      volume = onto volume (extent 4 4 2) refl (volume-bounds .0) (not-layered .0) volume-rules;
-      line = onto line (extent 1 1 0) refl (volume-bounds .1) (not-layered .1) line-rules;
+      large = (large, λ g. buffer-to-buffer (device true true) 0 1 (buffer 268435457 4) (buffer 4 8) 0 0 (L.Given 4) .0 g .1 (inl (too-large 4)));
+      index = (indexed, λ g. buffer-to-buffer (device true false) 0 1 (buffer 4 20) (buffer 4 40) 0 0 (L.Given 4) .0 g .1 (inr (inr (record { fact = refl; index = inl refl; shared = inr (inl refl) }))));
+      wide-texture = record { accepted = wide-holds; refused = refused-by tooWide (compared tooWide (below .0) refl refl) (inr (inl (too-wide 1))) };
+      large-buffer = record { accepted = large-holds; refused = refused-by tooLarge (compared tooLarge (below .0) refl refl) (inl (too-large 12)) };
+      depth = record { accepted = depth-holds; refused = refused-by depthless (compared depthless (below .2) refl refl) depth-excepted };
+      color = record { accepted = color-holds; refused = refused-by colorDepth (compared colorDepth (below .0) refl refl) color-excepted };
+      wide-textures = (λ reading. record { rules = wide-rules reading; disjoint = two }, λ g. textures-agree 0 1 _ _ _ (below .0) (below .0) .0 g .2 (inl (too-wide 2)));
+      layer = λ reads. only-without reads oneLayer (compared oneLayer layered refl refl) (kept oneLayer (bounded .one) stencil refl refl) (layer-holds reads) (some-layers .0);
+      layers = λ reads. only-without reads noLayer (compared noLayer layered refl refl) (kept noLayer (bounded .none) stencil refl refl) (none-holds reads) (some-layers .1);
+      starred-layer = only-without true starred (record { known = below .3; bytes-field = omega arith; rows-field = tt }) (kept starred (bounded .many) (bounded .depth) refl refl) starred-holds (some-layers .2);
+      texture-layers = (
+        textures-agree 0 1 _ _ _ layered layered .1 (layer-rules, two, in-both (texture 15 2 (extent 1 1 2)) stencil),
+        record { rules = layer-rules; disjoint = two },
+        λ v. textures-agree-with-layers 0 1 _ _ _ layered layered .1 (v .rules, two, in-both (texture 15 2 (extent 1 1 2)) stencil) .1 (inl (some-layers .0)),
+      );
+      volume = only-planned (texture 0 3 (extent 1 1 2)) (extent 1 1 1) refl (bounded .volume) (not-layered .0) volume-rules;
+      starred-volume = only-planned (texture 0 3 (extent 4 4 4)) (extent 4 4 2) refl (bounded .larger) (not-layered .0) starred-rules;
+      line = only-planned (texture 0 1 (extent 1 1 1)) (extent 1 1 0) refl (bounded .line) (not-layered .1) line-rules;
     }

@@ -40,15 +40,15 @@ use Rattle.texture_copies.specs.declared.TexturePlanned.the-variants as X
 use Rattle.texture_plans.specs.Plan.{planOf}
 use Rattle.texture_copies.specs.Plan.{isThis, isPlaneSplit, formatsDiffer, planeChecked, withinOne, usable, selectedCopy, rangedCopy, textureToTexture}
 use Rattle.webgpu.specs.Formats.{Known, dimensionOf, copyCompatible}
-use Rattle.webgpu.specs.WebGpu.{Has, Reading, WithLayers, OneLayer, Disjoint, TextureCopyRules}
-use Rattle.webgpu.specs.Agreement.{GoesOn, Excepted, layersOf, AllowsWithin}
+use Rattle.webgpu.specs.WebGpu.{Has, Reading, WithLayers, OneLayer, TextureCopyRules}
+use Rattle.webgpu.specs.Agreement.{GoesOn, layersOf, AllowsWithin}
 use Rattle.webgpu.proofs.Rows.{below}
 use Rattle.webgpu.proofs.Sizes.{dimension-is}
-use Rattle.webgpu.proofs.TextureRanges.{ranges, ranges-part}
+use Rattle.webgpu.proofs.TextureRanges.{Excepted, ranges-by, no-layers-left}
 use Rattle.webgpu.proofs.Subresources.{same-texture, same-texture-parts}
 use Rattle.webgpu.proofs.Compatible.{compatible-formats, all-aspects}
 use Rattle.webgpu_copies.specs.Bounds.{TextureInBounds}
-use Rattle.webgpu_copies.specs.WholeCopies.{GivesTexturePlan, PlansTextures, Rules, StandardTextures, OutOfBounds, OntoItself, LayersLeft, Textures, TexturesPart}
+use Rattle.webgpu_copies.specs.WholeCopies.{GivesTexturePlan, PlansTextures, Rules, ApartOrMoved, OutOfBounds, LayersLeft, TextureToTexture, TextureToTextureWithLayers, OntoItselfParts}
 use Rattle.webgpu_copies.proofs.Lines.{flag-of, flag-by, opposite, past-line, by-line, past-rule, by-rule, past-range, by-range, past-selector, by-selector}
 use Rattle.webgpu_copies.proofs.Records.{record-bounds}
 use Rattle.webgpu_copies.proofs.Textures.{texture-goes, texture-kept, texture-bounds}
@@ -186,8 +186,8 @@ module _ (src dst : TextureSide) (size : Extent3d) (k : Known (src .texture .for
     rules-of : {same : Bool} → Passes same → TextureCopyRules reading (src .texture) (dst .texture) (src .view) (dst .view) size
     rules-of p =
         record {
-          src-valid = ranges reading (src .view) (src .texture) Source size k (λ x. whole (inl x)) .0 (p .from);
-          dst-valid = ranges reading (dst .view) (dst .texture) Destination size l (λ x. whole (inr x)) .0 (p .to);
+          src-valid = ranges-by reading (src .view) (src .texture) Source size k (λ x. whole (inl x)) .0 (p .from);
+          dst-valid = ranges-by reading (dst .view) (dst .texture) Destination size l (λ x. whole (inr x)) .0 (p .to);
           src-usage = p .src-usage;
           dst-usage = p .dst-usage;
           samples = p .samples;
@@ -204,8 +204,8 @@ module _ (src dst : TextureSide) (size : Extent3d) (k : Known (src .texture .for
           src-bounds = texture-bounds (src .texture) (λ x. bounds (inl x));
           dst-bounds = texture-bounds (dst .texture) (λ x. bounds (inr x));
           formats = not-true _ (compatible ∙ v .compatible);
-          from = ranges reading (src .view) (src .texture) Source size k (λ x. whole (inl x)) .1 (v .src-valid);
-          to = ranges reading (dst .view) (dst .texture) Destination size l (λ x. whole (inr x)) .1 (v .dst-valid);
+          from = ranges-by reading (src .view) (src .texture) Source size k (λ x. whole (inl x)) .1 (v .src-valid);
+          to = ranges-by reading (dst .view) (dst .texture) Destination size l (λ x. whole (inr x)) .1 (v .dst-valid);
           within = within;
           src-aspects = all-aspects _ _ k .1 (v .src-aspects);
           dst-aspects = all-aspects _ _ l .1 (v .dst-aspects);
@@ -294,42 +294,37 @@ module _ (i j : ℕ) (src dst : TextureSide) (size : Extent3d) (k : Known (src .
 -- ---- the claims
 
 module _ (i j : ℕ) (src dst : TextureSide) (size : Extent3d) (k : Known (src .texture .format)) (l : Known (dst .texture .format)) where
-  -- one texture's parts are disjoint exactly where the rule goes on, but for the exception
-  disjoint : (OntoItself i j src dst size → ⊥) → (eqb i j ≡ true → Within src dst size k l) → eqb i j ≡ true → Disjoint (src .texture) (src .view) (dst .view) size
-  disjoint other w e = same-texture (src .texture) (src .view) (dst .view) size k (λ m. other (e, m)) .0 (w e)
+  in-bounds : PlansTextures i j src dst size → OutOfBounds i j src dst size → ⊥
+  in-bounds g (inl out) = out (bounds-of i j src dst size g .0)
+  in-bounds g (inr out) = out (bounds-of i j src dst size g .1)
 
-  within : (OntoItself i j src dst size → ⊥) → (eqb i j ≡ true → Disjoint (src .texture) (src .view) (dst .view) size) → eqb i j ≡ true → Within src dst size k l
-  within other apart e = same-texture (src .texture) (src .view) (dst .view) size k (λ m. other (e, m)) .1 (apart e)
+  abbrev Left : Reading → Type 0
+  Left reading = Excepted reading (src .texture) (src .view) size ⊎ Excepted reading (dst .texture) (dst .view) size
 
-pub textures-agree : (reading : Reading) → Textures reading
-textures-agree reading i j src dst size k l bounds other whole = (
-  λ g. let p = passes i j src dst size k l g in record { rules = rules-of src dst size k l reading whole p; disjoint = disjoint i j src dst size k l other (p .within) },
-  λ v. plan i j src dst size k l (passes-of src dst size k l reading whole (eqb i j) bounds (within i j src dst size k l other (v .disjoint)) (v .rules)),
-)
+  to-standard : (reading : Reading) → (Left reading → ⊥) → PlansTextures i j src dst size → Rules i j src dst size reading × ApartOrMoved i j src dst size × (OutOfBounds i j src dst size → ⊥)
+  to-standard reading whole g =
+      let p = passes i j src dst size k l g in
+      (rules-of src dst size k l reading whole p, λ e. same-texture (src .texture) (src .view) (dst .view) size k .0 (p .within e), in-bounds g)
+
+  to-plan : (reading : Reading) → (Left reading → ⊥) → Rules i j src dst size reading → ApartOrMoved i j src dst size → (OutOfBounds i j src dst size → ⊥) → PlansTextures i j src dst size
+  to-plan reading whole v apart bounds = plan i j src dst size k l (passes-of src dst size k l reading whole (eqb i j) bounds (λ e. same-texture (src .texture) (src .view) (dst .view) size k .1 (apart e)) v)
+
+  none-left : Rules i j src dst size WithLayers → LayersLeft i j src dst size → ⊥
+  none-left v (inl x) = no-layers-left (src .texture) (src .view) size (v .src-valid) x
+  none-left v (inr x) = no-layers-left (dst .texture) (dst .view) size (v .dst-valid) x
 
 nothing : (⊥ ⊎ ⊥) → ⊥
 nothing (inl x) = x
 nothing (inr x) = x
 
-onto-itself :
-    (i j : ℕ) (src dst : TextureSide) (size : Extent3d) → Known (src .texture .format) → Known (dst .texture .format)
-    → (OutOfBounds i j src dst size → ⊥) → OntoItself i j src dst size
-    → (PlansTextures i j src dst size ↔ Rules i j src dst size OneLayer)
-    × ((reading : Reading) → StandardTextures i j src dst size reading → ⊥)
-onto-itself i j src dst size k l bounds (e, m) =
-    let parts = same-texture-parts (src .texture) (src .view) (dst .view) size k m in (
-      (λ g. rules-of src dst size k l OneLayer nothing (passes i j src dst size k l g), λ v. plan i j src dst size k l (passes-of src dst size k l OneLayer nothing (eqb i j) bounds (λ s. parts .0) v)),
-      λ reading v. parts .1 (v .disjoint e),
-    )
+pub textures-agree : TextureToTexture
+textures-agree i j src dst size k l = (to-standard i j src dst size k l OneLayer nothing, λ v. to-plan i j src dst size k l OneLayer nothing (v .0) (v .1) (v .2))
 
-some-layers :
-    (i j : ℕ) (src dst : TextureSide) (size : Extent3d) → LayersLeft i j src dst size WithLayers → StandardTextures i j src dst size WithLayers → ⊥
-some-layers i j src dst size (inl x) v = ranges-part (src .texture) (src .view) size x (v .rules .src-valid)
-some-layers i j src dst size (inr x) v = ranges-part (dst .texture) (dst .view) size x (v .rules .dst-valid)
+pub textures-agree-with-layers : TextureToTextureWithLayers
+textures-agree-with-layers i j src dst size k l = (
+  λ g. to-standard i j src dst size k l WithLayers (g .1) (g .0),
+  λ v. let whole = none-left i j src dst size k l (v .0) in (to-plan i j src dst size k l WithLayers whole (v .0) (v .1) (v .2), whole),
+)
 
-out-of-bounds : (i j : ℕ) (src dst : TextureSide) (size : Extent3d) → OutOfBounds i j src dst size → PlansTextures i j src dst size → ⊥
-out-of-bounds i j src dst size (inl out) g = out (bounds-of i j src dst size g .0)
-out-of-bounds i j src dst size (inr out) g = out (bounds-of i j src dst size g .1)
-
-pub textures-part : TexturesPart
-textures-part = record { bounds = out-of-bounds; onto-itself = onto-itself; layers = some-layers }
+pub onto-itself-parts : OntoItselfParts
+onto-itself-parts i j src dst size reading e m v = same-texture-parts (src .texture) (src .view) (dst .view) size m (v .disjoint e)

@@ -43,14 +43,14 @@ use Rattle.copies.specs.Copies.{after-range, after-selector}
 use Rattle.buffer_texture_plans.specs.Plan.{planOf}
 use Rattle.buffer_texture.specs.Plan.{after-linear, lacksDepthFact, uploadPlaced, uploadAllowed, uploadRanged, bufferToTexture, downloadPlaced, downloadAllowed, downloadRanged, textureToBuffer}
 use Rattle.webgpu.specs.Formats.{Color, names, formats, Known, formatOf, anyDepthOrStencil, isDepthOrStencil, named}
-use Rattle.webgpu.specs.WebGpu.{Has, BUFFER-COPY-SRC, BUFFER-COPY-DST, TEXTURE-COPY-SRC, TEXTURE-COPY-DST, Reading}
-use Rattle.webgpu.specs.Agreement.{bits, GoesOn, Excepted, InStandard, formatRule}
+use Rattle.webgpu.specs.WebGpu.{Has, BUFFER-COPY-SRC, BUFFER-COPY-DST, TEXTURE-COPY-SRC, TEXTURE-COPY-DST, Reading, WithLayers, OneLayer}
+use Rattle.webgpu.specs.Agreement.{bits, GoesOn, InStandard, formatRule}
 use Rattle.webgpu.proofs.Rows.{below, row-of}
-use Rattle.webgpu.proofs.TextureRanges.{ranges, ranges-part}
+use Rattle.webgpu.proofs.TextureRanges.{Excepted, ranges-by, no-layers-left}
 use Rattle.webgpu.proofs.Linears.{linear-rules}
 use Rattle.webgpu.proofs.BufferCopies.{or-rest, one-aspect, buffer-copies}
 use Rattle.webgpu_copies.specs.Bounds.{TextureInBounds}
-use Rattle.webgpu_copies.specs.WholeCopies.{Copy, planned, GivesPlan, StandardCopy, Compared, DepthRestricted, AspectLacking, CopyExcepted, Agrees, CopiesPart}
+use Rattle.webgpu_copies.specs.WholeCopies.{Copy, planned, GivesPlan, StandardCopy, Compared, DepthRestricted, AspectLacking, CopyExcepted, Agrees, AgreesWithLayers}
 use Rattle.webgpu_copies.proofs.Lines.{flag-of, flag-by, opposite, tested, past-line, by-line, past-rule, by-rule, past-range, by-range, past-selector, by-selector}
 use Rattle.webgpu_copies.proofs.Records.{record-bounds}
 use Rattle.webgpu_copies.proofs.Buffers.{buffer-goes, buffer-kept, buffer-bounds}
@@ -228,7 +228,7 @@ module _ (reading : Reading) (reads : Bool) (c : Copy) (r : Compared c) (kept : 
 
   standard-of : Passes reads c → StandardCopy reading reads c
   standard-of p =
-      let view = ranges reading (c .view) (c .texture) (textureSide reads) (c .size) (r .known) whole .0 (p .range) in
+      let view = ranges-by reading (c .view) (c .texture) (textureSide reads) (c .size) (r .known) whole .0 (p .range) in
       let linear = linear-rules (c .layout) f (c .view .aspect) (c .size) (c .buffer .size) (bufferSide reads) suited (figures-of reading c r suited in-buffer in-texture view) in
       let suits : rules (bits (named (formatOf f) (c .view .aspect))) = rw (← chosen-is) (p .suits) in
       record {
@@ -246,7 +246,7 @@ module _ (reading : Reading) (reads : Bool) (c : Copy) (r : Compared c) (kept : 
       record {
         in-buffer = in-buffer;
         in-texture = in-texture;
-        range = ranges reading (c .view) (c .texture) (textureSide reads) (c .size) (r .known) whole .1 (v .view-valid);
+        range = ranges-by reading (c .view) (c .texture) (textureSide reads) (c .size) (r .known) whole .1 (v .view-valid);
         chosen = rw chosen-is (one-not-none _ one);
         buffer-usage = v .buffer-usage;
         texture-usage = v .texture-usage;
@@ -352,29 +352,32 @@ passed-by : (reads : Bool) (c : Copy) → GivesPlan (planned reads c) → Passes
 passed-by true c g = downloaded c g
 passed-by false c g = uploaded c g
 
-pub copies-agree : (reading : Reading) (reads : Bool) → Agrees reading reads
-copies-agree reading true c r kept whole = (
-  λ g. standard-of reading true c r kept whole (downloaded c g),
-  λ v. download c (v .view-valid .level) (passes-of reading true c r kept whole v),
+planned-by : (reads : Bool) (c : Copy) → c .view .«mip_level» < c .texture .«mip_level_count» → Passes reads c → GivesPlan (planned reads c)
+planned-by true c level p = download c level p
+planned-by false c level p = upload c p
+
+-- nothing of an accepted copy is excepted
+kept-by : (reads : Bool) (c : Copy) → Known (c .texture .format) → Passes reads c → CopyExcepted c → ⊥
+kept-by reads c k p (inl out) = out (record-bounds .buffers (c .buffer) .0 (p .in-buffer))
+kept-by reads c k p (inr (inl out)) = out (record-bounds .textures (c .texture) .0 (p .in-texture))
+kept-by reads c k p (inr (inr (inl d))) = opposite _ (depth-lacks c k d) (p .depth-fact)
+kept-by reads c k p (inr (inr (inr a))) = opposite _ (lacks-aspect c k a) (p .chosen)
+
+module _ (reads : Bool) (c : Copy) (r : Compared c) where
+  to-standard : (reading : Reading) → (Excepted reading (c .texture) (c .view) (c .size) → ⊥) → GivesPlan (planned reads c) → StandardCopy reading reads c × (CopyExcepted c → ⊥)
+  to-standard reading whole g =
+      let p = passed-by reads c g in
+      let kept = kept-by reads c (r .known) p in
+      (standard-of reading reads c r kept whole p, kept)
+
+  to-plan : (reading : Reading) → (Excepted reading (c .texture) (c .view) (c .size) → ⊥) → StandardCopy reading reads c → (CopyExcepted c → ⊥) → GivesPlan (planned reads c)
+  to-plan reading whole v kept = planned-by reads c (v .view-valid .level) (passes-of reading reads c r kept whole v)
+
+pub copies-agree : (reads : Bool) → Agrees reads
+copies-agree reads c r = (to-standard reads c r OneLayer (λ x. x), λ v. to-plan reads c r OneLayer (λ x. x) (v .0) (v .1))
+
+pub copies-agree-with-layers : (reads : Bool) → AgreesWithLayers reads
+copies-agree-with-layers reads c r = (
+  λ g. to-standard reads c r WithLayers (g .1) (g .0),
+  λ v. let whole = no-layers-left (c .texture) (c .view) (c .size) (v .0 .view-valid) in (to-plan reads c r WithLayers whole (v .0) (v .1), whole),
 )
-copies-agree reading false c r kept whole = (
-  λ g. standard-of reading false c r kept whole (uploaded c g),
-  λ v. upload c (passes-of reading false c r kept whole v),
-)
-
--- ---- where an exception holds
-
-planner : (reads : Bool) (c : Copy) → Known (c .texture .format) → CopyExcepted c → GivesPlan (planned reads c) → ⊥
-planner reads c k x g = go x
-  where
-    p : Passes reads c
-    p = passed-by reads c g
-
-    go : CopyExcepted c → ⊥
-    go (inl out) = out (record-bounds .buffers (c .buffer) .0 (p .in-buffer))
-    go (inr (inl out)) = out (record-bounds .textures (c .texture) .0 (p .in-texture))
-    go (inr (inr (inl d))) = opposite _ (depth-lacks c k d) (p .depth-fact)
-    go (inr (inr (inr a))) = opposite _ (lacks-aspect c k a) (p .chosen)
-
-pub copies-part : CopiesPart
-copies-part = record { planner = planner; standard = λ reads c some v. ranges-part (c .texture) (c .view) (c .size) some (v .view-valid) }

@@ -1,4 +1,4 @@
--- The smallest copies at which the planner and the standard part, one for each exception; docs/DIFFERENCES.md has them as sheets.
+-- Copies at which the planner and the standard part, for each exception; docs/DIFFERENCES.md has the smallest as sheets.
 use mathlib.Core.Bool.{Bool, true, false}
 use Prim.Native.Nat.{ℕ}
 use Rattle.measures.specs.declared.Extent3d.{Extent3d}
@@ -44,58 +44,84 @@ Buffers d src dst = GivesBufferPlan (bufferToBuffer d 0 src 0 1 dst 0 (L.Given 4
 abbrev pub StandardBuffers : Buffer → Buffer → Type 0
 StandardBuffers src dst = W.CopyBufferToBuffer false src dst 0 0 4
 
--- ---- from a texture into the start of a buffer
+-- ---- between the start of a buffer and a texture, either way
 
 abbrev pub copy : Device → Buffer → OptionU32 → Texture → TexelCopyTextureInfo → Extent3d → Copy
 copy d b row t view size =
     record { device = d; buffer = b; layout = record { offset = 0; «bytes_per_row» = row; «rows_per_image» = Absent }; texture = t; view = view; size = size }
 
-abbrev pub Standard : Copy → Type 0
-Standard c = (reading : W.Reading) → StandardCopy reading true c
+-- one texel, or what is said, of a 2D texture, into or from a buffer of usage 12
+abbrev pub texel : Device → ℕ → ℕ → Extent3d → ℕ → TextureAspect → Extent3d → Copy
+texel d bytes format size z aspect copied = copy d (buffer bytes 12) Absent (texture format 2 size) (viewAt z aspect) copied
 
--- one texel of a texture that is wider than 8,192
+-- a texture that is wider than 8,192, and a buffer of more than 268,435,456 bytes
 abbrev pub tooWide : Copy
-tooWide = copy (device true true) (buffer 1 8) Absent (texture 0 2 (extent 8193 1 1)) (viewAt 0 All) (extent 1 1 1)
+tooWide = texel (device true true) 1 0 (extent 8193 1 1) 0 All (extent 1 1 1)
 
--- depth16unorm of one texel, without the depth fact
+abbrev pub tooLarge : Copy
+tooLarge = texel (device true true) 268435457 0 (extent 1 1 1) 0 All (extent 1 1 1)
+
+-- depth16unorm, without the depth fact; the depth of r8unorm
 abbrev pub depthless : Copy
-depthless = copy (device false true) (buffer 2 8) Absent (texture 16 2 (extent 1 1 1)) (viewAt 0 All) (extent 1 1 1)
+depthless = texel (device false true) 2 16 (extent 1 1 1) 0 All (extent 1 1 1)
 
--- the depth of r8unorm of one texel
 abbrev pub colorDepth : Copy
-colorDepth = copy (device true true) (buffer 1 8) Absent (texture 0 2 (extent 1 1 1)) (viewAt 0 DepthOnly) (extent 1 1 1)
+colorDepth = texel (device true true) 1 0 (extent 1 1 1) 0 DepthOnly (extent 1 1 1)
 
--- document 01's starred point: depth32float 8×8, layer 1 of 2, 256 bytes per row
-abbrev pub layerOne : Copy
-layerOne = copy (device true true) (buffer 4096 12) (Given 256) (texture 19 2 (extent 8 8 2)) (viewAt 1 All) (extent 8 8 1)
+-- one layer of two of stencil8, and none of them
+abbrev pub oneLayer : Copy
+oneLayer = texel (device true true) 1 15 (extent 1 1 2) 1 All (extent 1 1 1)
 
--- no layer of two of stencil8
 abbrev pub noLayer : Copy
-noLayer = copy (device true true) (buffer 0 8) Absent (texture 15 2 (extent 1 1 2)) (viewAt 0 All) (extent 1 1 0)
+noLayer = texel (device true true) 0 15 (extent 1 1 2) 0 All (extent 1 1 0)
 
--- ---- one texture onto itself, from z 0 to z 1
+-- document 01's starred point, into a buffer: depth32float 8×8, layer 1 of 2, 256 bytes per row
+abbrev pub starred : Copy
+starred = copy (device true true) (buffer 4096 12) (Given 256) (texture 19 2 (extent 8 8 2)) (viewAt 1 All) (extent 8 8 1)
+
+-- the standard accepts, either way and however it is read, and the planner refuses
+pub record OnlyStandard (c : Copy) : Type 0 where
+  pub accepted : (reading : W.Reading) (reads : Bool) → StandardCopy reading reads c
+  pub refused : (reads : Bool) → GivesPlan (planned reads c) → ⊥
+
+-- the planner accepts, and so does the standard where it is read without layers; with them it refuses
+pub record OnlyWithoutLayers (reads : Bool) (c : Copy) : Type 0 where
+  pub plans : GivesPlan (planned reads c)
+  pub accepted : StandardCopy W.OneLayer reads c
+  pub refused : StandardCopy W.WithLayers reads c → ⊥
+
+-- ---- between textures, from z 0 to z 1
 
 abbrev pub side : Texture → ℕ → TextureSide
 side t z = record { texture = t; view = viewAt z All }
 
-abbrev pub OntoZ1 : Texture → Extent3d → Type 0
-OntoZ1 t size = PlansTextures 0 0 (side t 0) (side t 1) size
+-- one texture onto itself, or onto another like it
+abbrev pub OntoZ1 : ℕ → Texture → Extent3d → Type 0
+OntoZ1 other t size = PlansTextures 0 other (side t 0) (side t 1) size
 
-abbrev pub StandardOntoZ1 : Texture → Extent3d → W.Reading → Type 0
-StandardOntoZ1 t size reading = StandardTextures 0 0 (side t 0) (side t 1) size reading
+abbrev pub StandardOntoZ1 : ℕ → Texture → Extent3d → W.Reading → Type 0
+StandardOntoZ1 other t size reading = StandardTextures 0 other (side t 0) (side t 1) size reading
+
+abbrev pub OnlyPlanned : Texture → Extent3d → Type 0
+OnlyPlanned t size = OntoZ1 0 t size × ((reading : W.Reading) → StandardOntoZ1 0 t size reading → ⊥)
 
 -- ---- that they part
 
 pub record Examples : Type 0 where
-  -- the planner refuses: 3, 2, 34, 34, 12
+  -- the planner refuses: 3, 34; 2, 3, 34, 12; 2
   pub large : StandardBuffers (buffer 268435457 4) (buffer 4 8) × (Buffers (device true true) (buffer 268435457 4) (buffer 4 8) → ⊥)
-  pub wide : Standard tooWide × (GivesPlan (planned true tooWide) → ⊥)
   pub index : StandardBuffers (buffer 4 20) (buffer 4 40) × (Buffers (device true false) (buffer 4 20) (buffer 4 40) → ⊥)
-  pub depth : Standard depthless × (GivesPlan (planned true depthless) → ⊥)
-  pub color : Standard colorDepth × (GivesPlan (planned true colorDepth) → ⊥)
-  -- the standard refuses, read with layers, and read without them accepts
-  pub layer : GivesPlan (planned true layerOne) × StandardCopy W.OneLayer true layerOne × (StandardCopy W.WithLayers true layerOne → ⊥)
-  pub layers : GivesPlan (planned true noLayer) × StandardCopy W.OneLayer true noLayer × (StandardCopy W.WithLayers true noLayer → ⊥)
-  -- the standard refuses: two slices of a volume, and nothing of a 1D texture
-  pub volume : OntoZ1 (texture 0 3 (extent 4 4 4)) (extent 4 4 2) × ((reading : W.Reading) → StandardOntoZ1 (texture 0 3 (extent 4 4 4)) (extent 4 4 2) reading → ⊥)
-  pub line : OntoZ1 (texture 0 1 (extent 1 1 1)) (extent 1 1 0) × ((reading : W.Reading) → StandardOntoZ1 (texture 0 1 (extent 1 1 1)) (extent 1 1 0) reading → ⊥)
+  pub wide-texture : OnlyStandard tooWide
+  pub large-buffer : OnlyStandard tooLarge
+  pub depth : OnlyStandard depthless
+  pub color : OnlyStandard colorDepth
+  pub wide-textures : ((reading : W.Reading) → StandardOntoZ1 1 (texture 0 2 (extent 8193 1 2)) (extent 1 1 1) reading) × (OntoZ1 1 (texture 0 2 (extent 8193 1 2)) (extent 1 1 1) → ⊥)
+  -- the standard refuses, read with layers
+  pub layer : (reads : Bool) → OnlyWithoutLayers reads oneLayer
+  pub layers : (reads : Bool) → OnlyWithoutLayers reads noLayer
+  pub starred-layer : OnlyWithoutLayers true starred
+  pub texture-layers : OntoZ1 1 (texture 15 2 (extent 1 1 2)) (extent 1 1 1) × StandardOntoZ1 1 (texture 15 2 (extent 1 1 2)) (extent 1 1 1) W.OneLayer × (StandardOntoZ1 1 (texture 15 2 (extent 1 1 2)) (extent 1 1 1) W.WithLayers → ⊥)
+  -- the standard refuses, however it is read: a slice of a volume, document 01's two slices, and nothing of a 1D texture
+  pub volume : OnlyPlanned (texture 0 3 (extent 1 1 2)) (extent 1 1 1)
+  pub starred-volume : OnlyPlanned (texture 0 3 (extent 4 4 4)) (extent 4 4 2)
+  pub line : OnlyPlanned (texture 0 1 (extent 1 1 1)) (extent 1 1 0)

@@ -1,5 +1,5 @@
--- Whole copies: the planner answers a plan exactly where the standard's rules hold. An exception is a hypothesis in the standard's
--- words or document 01's, and no wider than the difference: a claim says that the two part wherever it holds.
+-- Whole copies: the planner answers a plan exactly where the standard's rules hold and nothing is excepted. An exception is in the
+-- standard's words or document 01's.
 use mathlib.Core.Path.{_≡_}
 use mathlib.Core.Bool.{Bool, true, false}
 use mathlib.Core.Logic.{_⊎_, _↔_}
@@ -25,7 +25,7 @@ use Rattle.texture_copies.specs.declared.TexturePlanned.{TexturePlanned}
 use Rattle.texture_copies.specs.declared.TexturePlanned.the-variants as X
 use Rattle.webgpu.specs.Formats.{Known, isDepthOrStencil}
 use Rattle.webgpu.specs.WebGpu as W
-use Rattle.webgpu.specs.Agreement.{Excepted, SomeLayers, Fits32, MovesWithin}
+use Rattle.webgpu.specs.Agreement.{SomeLayers, Fits32, MovesWithin}
 use Rattle.webgpu_copies.specs.Bounds.{BufferInBounds, TextureInBounds}
 -- what is judged
 use Rattle.buffer_copies.specs.BufferCopies.{bufferToBuffer}
@@ -52,14 +52,9 @@ BuffersExcepted device src dst = (BufferInBounds src → ⊥) ⊎ ((BufferInBoun
 
 abbrev pub BufferToBuffer : Type 0
 BufferToBuffer =
-    (device : Device) (i j : ℕ) (src dst : Buffer) (srcOffset dstOffset : ℕ) (size : OptionU64) → (BuffersExcepted device src dst → ⊥)
+    (device : Device) (i j : ℕ) (src dst : Buffer) (srcOffset dstOffset : ℕ) (size : OptionU64)
     → GivesBufferPlan (bufferToBuffer device i src srcOffset j dst dstOffset size)
-    ↔ W.CopyBufferToBuffer (eqb i j) src dst srcOffset dstOffset (W.copySizeOf src srcOffset size)
-
-abbrev pub BufferToBufferParts : Type 0
-BufferToBufferParts =
-    (device : Device) (i j : ℕ) (src dst : Buffer) (srcOffset dstOffset : ℕ) (size : OptionU64) → BuffersExcepted device src dst
-    → GivesBufferPlan (bufferToBuffer device i src srcOffset j dst dstOffset size) → ⊥
+    ↔ (W.CopyBufferToBuffer (eqb i j) src dst srcOffset dstOffset (W.copySizeOf src srcOffset size) × (BuffersExcepted device src dst → ⊥))
 
 -- ---- between a buffer and a texture
 
@@ -100,29 +95,27 @@ AspectLacking c = (isDepthOrStencil (c .texture .format) ≡ false) × (c .view 
 abbrev pub CopyExcepted : Copy → Type 0
 CopyExcepted c = (BufferInBounds (c .buffer) → ⊥) ⊎ ((TextureInBounds (c .texture) → ⊥) ⊎ (DepthRestricted c ⊎ AspectLacking c))
 
-abbrev pub Agrees : W.Reading → Bool → Type 0
-Agrees reading reads =
-    (c : Copy) → Compared c → (CopyExcepted c → ⊥) → (Excepted reading (c .texture) (c .view) (c .size) → ⊥)
-    → GivesPlan (planned reads c) ↔ StandardCopy reading reads c
+-- the whole size of a texture that is copied whole is that of one layer
+abbrev pub Agrees : Bool → Type 0
+Agrees reads = (c : Copy) → Compared c → GivesPlan (planned reads c) ↔ (StandardCopy W.OneLayer reads c × (CopyExcepted c → ⊥))
 
--- the whole size of a texture that is copied whole is that of one layer: nothing more is excepted
+-- it is that of all layers: then the standard refuses some of them, and that alone more
+abbrev pub AgreesWithLayers : Bool → Type 0
+AgreesWithLayers reads =
+    (c : Copy) → Compared c
+    → (GivesPlan (planned reads c) × (SomeLayers (c .texture) (c .view) (c .size) → ⊥)) ↔ (StandardCopy W.WithLayers reads c × (CopyExcepted c → ⊥))
+
 abbrev pub UploadAgrees : Type 0
-UploadAgrees = Agrees W.OneLayer false
+UploadAgrees = Agrees false
+
+abbrev pub UploadAgreesWithLayers : Type 0
+UploadAgreesWithLayers = AgreesWithLayers false
 
 abbrev pub DownloadAgrees : Type 0
-DownloadAgrees = Agrees W.OneLayer true
-
--- it is that of all layers: some of them are excepted
-abbrev pub UploadAgreesWithLayers : Type 0
-UploadAgreesWithLayers = Agrees W.WithLayers false
+DownloadAgrees = Agrees true
 
 abbrev pub DownloadAgreesWithLayers : Type 0
-DownloadAgreesWithLayers = Agrees W.WithLayers true
-
--- where an exception holds, one side refuses: the planner, or of some layers the standard
-pub record CopiesPart : Type 0 where
-  pub planner : (reads : Bool) (c : Copy) → Known (c .texture .format) → CopyExcepted c → GivesPlan (planned reads c) → ⊥
-  pub standard : (reads : Bool) (c : Copy) → SomeLayers (c .texture) (c .view) (c .size) → StandardCopy W.WithLayers reads c → ⊥
+DownloadAgreesWithLayers = AgreesWithLayers true
 
 -- ---- texture to texture
 
@@ -139,37 +132,32 @@ module _ (i j : ℕ) (src dst : TextureSide) (size : Extent3d) where
   abbrev pub StandardTextures : W.Reading → Type 0
   StandardTextures reading = W.CopyTextureToTexture reading (eqb i j) (src .texture) (dst .texture) (src .view) (dst .view) size
 
-  -- exception of the planner: records out of document 01's bounds
+  -- what the planner refuses beyond the standard: records out of document 01's bounds
   abbrev pub OutOfBounds : Type 0
   OutOfBounds = (TextureInBounds (src .texture) → ⊥) ⊎ (TextureInBounds (dst .texture) → ⊥)
 
-  -- exception of the standard: one level of a 1D or 3D texture onto itself at another z
-  abbrev pub OntoItself : Type 0
-  OntoItself = (eqb i j ≡ true) × MovesWithin (src .texture) (src .view) (dst .view)
+  -- the planner's last rule: one texture's parts are disjoint, or one level of a 1D or 3D texture goes to another z
+  abbrev pub ApartOrMoved : Type 0
+  ApartOrMoved = eqb i j ≡ true → W.Disjoint (src .texture) (src .view) (dst .view) size ⊎ MovesWithin (src .texture) (src .view) (dst .view)
 
-  -- exception of the standard, read with layers
-  abbrev pub LayersLeft : W.Reading → Type 0
-  LayersLeft reading = Excepted reading (src .texture) (src .view) size ⊎ Excepted reading (dst .texture) (dst .view) size
+  -- what the standard, read with layers, refuses beyond the planner
+  abbrev pub LayersLeft : Type 0
+  LayersLeft = SomeLayers (src .texture) (src .view) size ⊎ SomeLayers (dst .texture) (dst .view) size
 
 -- formats of the standard; an aspect that a format lacks is refused by both
-abbrev pub Textures : W.Reading → Type 0
-Textures reading =
-    (i j : ℕ) (src dst : TextureSide) (size : Extent3d) → Known (src .texture .format) → Known (dst .texture .format)
-    → (OutOfBounds i j src dst size → ⊥) → (OntoItself i j src dst size → ⊥) → (LayersLeft i j src dst size reading → ⊥)
-    → PlansTextures i j src dst size ↔ StandardTextures i j src dst size reading
-
 abbrev pub TextureToTexture : Type 0
-TextureToTexture = Textures W.OneLayer
+TextureToTexture =
+    (i j : ℕ) (src dst : TextureSide) (size : Extent3d) → Known (src .texture .format) → Known (dst .texture .format)
+    → PlansTextures i j src dst size ↔ (Rules i j src dst size W.OneLayer × ApartOrMoved i j src dst size × (OutOfBounds i j src dst size → ⊥))
 
 abbrev pub TextureToTextureWithLayers : Type 0
-TextureToTextureWithLayers = Textures W.WithLayers
+TextureToTextureWithLayers =
+    (i j : ℕ) (src dst : TextureSide) (size : Extent3d) → Known (src .texture .format) → Known (dst .texture .format)
+    → (PlansTextures i j src dst size × (LayersLeft i j src dst size → ⊥))
+    ↔ (Rules i j src dst size W.WithLayers × ApartOrMoved i j src dst size × (OutOfBounds i j src dst size → ⊥))
 
-pub record TexturesPart : Type 0 where
-  pub bounds : (i j : ℕ) (src dst : TextureSide) (size : Extent3d) → OutOfBounds i j src dst size → PlansTextures i j src dst size → ⊥
-  -- onto itself at another z: the planner goes by every rule but the last, by which the standard refuses
-  pub onto-itself :
-      (i j : ℕ) (src dst : TextureSide) (size : Extent3d) → Known (src .texture .format) → Known (dst .texture .format)
-      → (OutOfBounds i j src dst size → ⊥) → OntoItself i j src dst size
-      → (PlansTextures i j src dst size ↔ Rules i j src dst size W.OneLayer)
-      × ((reading : W.Reading) → StandardTextures i j src dst size reading → ⊥)
-  pub layers : (i j : ℕ) (src dst : TextureSide) (size : Extent3d) → LayersLeft i j src dst size W.WithLayers → StandardTextures i j src dst size W.WithLayers → ⊥
+-- onto itself at another z the standard refuses, however it is read
+abbrev pub OntoItselfParts : Type 0
+OntoItselfParts =
+    (i j : ℕ) (src dst : TextureSide) (size : Extent3d) (reading : W.Reading) → eqb i j ≡ true → MovesWithin (src .texture) (src .view) (dst .view)
+    → StandardTextures i j src dst size reading → ⊥

@@ -1,9 +1,8 @@
 -- `texture_to_texture_agrees` meets its contract.
 -- Assumes nothing.
-use Rattle.webgpu.specs.WebGpu.{WithLayers, OneLayer}
-use Rattle.webgpu_copies.proofs.TextureCopies.{textures-agree, textures-part}
+use Rattle.webgpu_copies.proofs.TextureCopies.{textures-agree, textures-agree-with-layers, onto-itself-parts}
 use Rattle.webgpu_copies.proofs.texture_to_texture_agrees.Statement.{statement}
 use Rattle.webgpu_copies.proofs.texture_to_texture_agrees.Tie as tie
 
 pub texture-to-texture-agrees-spec : {M : Type 1} → statement M
-texture-to-texture-agrees-spec = tie.close (tie.spec (λ c. (textures-agree OneLayer, (textures-agree WithLayers, textures-part))))
+texture-to-texture-agrees-spec = tie.close (tie.spec (λ c. (textures-agree, (textures-agree-with-layers, onto-itself-parts))))
