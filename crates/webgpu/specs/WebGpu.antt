@@ -1,5 +1,6 @@
--- The W3C WebGPU specification's own rules on copies, in its words and order, apart from the planner's definitions. Section
--- titles are the specification's. Its numbers are unbounded: nothing wraps.
+-- The W3C WebGPU specification's own rules on copies, as they were restated from it, apart from the planner's definitions. Section
+-- titles are the specification's. Its numbers are unbounded: nothing wraps. That textures and buffers are valid is left to the records'
+-- bounds.
 use mathlib.Core.Path.{_≡_}
 use mathlib.Core.Bool.{Bool, true, false, cond}
 use mathlib.Core.List.{List, [], _∷_}
