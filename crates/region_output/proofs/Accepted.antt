@@ -43,7 +43,7 @@ use Rattle.selectors.specs.declared.SelectorChecked.{SelectorChecked}
 use Rattle.selectors.specs.declared.SelectorChecked.the-variants as S
 use Rattle.selectors.specs.Selector.{layerOf, zOf, selectorOf, baseOf, selectedOf, selectorChecked}
 use Rattle.copies.specs.Copies.{after-range, after-selector}
-use Rattle.region_output.specs.Numbers.{place, sides, numbers}
+use Rattle.region_output.specs.Numbers.{place, sides}
 use Rattle.region_output.proofs.Kept.{Small}
 
 -- ---- what holds of every answer that is no refusal, by an order of checks

@@ -1,7 +1,7 @@
 -- Asking a plan of one kind is asking a plan of any kind.
 -- Assumes nothing.
-use mathlib.Core.Path.{_≡_, refl, ap}
-use mathlib.Core.List.{List, [], _∷_, map}
+use mathlib.Core.Path.{refl, ap}
+use mathlib.Core.List.{List, map}
 use Rattle.buffer_texture_plans.specs.declared.BufferTextureCopy.{BufferTextureCopy}
 use Rattle.buffer_texture_plans.specs.declared.BufferTexturePlan.{BufferTexturePlan}
 use Rattle.texture_plans.specs.declared.TextureCopy.{TextureCopy}

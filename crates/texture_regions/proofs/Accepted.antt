@@ -1,6 +1,6 @@
 -- What an acceptance says of a copy between textures.
 -- Assumes nothing.
-use mathlib.Core.Path.{_≡_, refl, sym, ap, _∙_}
+use mathlib.Core.Path.{_≡_, refl, ap, _∙_}
 use mathlib.Core.Bool.{Bool, true, false, not, _&&_}
 use Prim.Native.Nat.{ℕ}
 use native.Mathlib.Omega.{arith}

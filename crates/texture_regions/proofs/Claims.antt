@@ -2,26 +2,22 @@
 -- Assumes nothing.
 use mathlib.Core.Path.{_≡_, refl, sym, ap, _∙_}
 use mathlib.Core.Bool.{Bool, true, false, cond}
-use mathlib.Core.List.{List, [], _∷_}
+use mathlib.Core.List.{List}
 use Prim.Native.Nat.{ℕ, zero, suc, _+_, _*_, _/_, _%_, _^_, _≤_, _<_, min}
 use native.Mathlib.Omega.{arith}
-use native.Mathlib.Nat.{div-one, mod-one, min-eq-left, le-refl, add-zero, zero-mul}
+use native.Mathlib.Nat.{div-one, min-eq-left, le-refl}
 use lib.ListN.{length, getD}
 use Rattle.checks.specs.Checks.{pick}
 use Rattle.measures.specs.declared.Extent3d.{Extent3d}
 use Rattle.measures.specs.Measure.{physicalSize}
 use Rattle.levels.specs.declared.TextureDimension.{TextureDimension}
 use Rattle.levels.specs.declared.TextureDimension.the-variants.{D1, D2, D3}
-use Rattle.records.specs.declared.Texture.{Texture}
 use Rattle.records.specs.Limits.{maxSide3d}
 use Rattle.records.specs.Bounds.{textureInBounds}
 use Rattle.records.specs.Extents.{physicalExtent}
 use Rattle.records.proofs.Bounded.{texture-laws}
-use Rattle.ranges.specs.declared.CopyExtent.{CopyExtent}
-use Rattle.ranges.specs.Range as R
 use Rattle.ranges.specs.Range.{copyExtent, arrayLayerCount}
 use Rattle.ranges.specs.Laws.{RangeLaws}
-use Rattle.selectors.specs.declared.TextureCopyBase.{TextureCopyBase}
 use Rattle.selectors.specs.Selector.{baseOf}
 use Rattle.copies.specs.Copies as C
 use Rattle.texture_plans.specs.declared.TextureSide.{TextureSide}

@@ -1,13 +1,13 @@
 -- The rules' figures of an accepted copy are those of the claim.
 -- Assumes nothing.
-use mathlib.Core.Path.{_≡_, refl, sym, ap, _∙_}
+use mathlib.Core.Path.{_≡_, refl, sym, _∙_}
 use mathlib.Core.Bool.{Bool, true, false, not, _&&_, _||_, cond}
-use mathlib.Core.List.{List, [], _∷_}
+use mathlib.Core.List.{[], _∷_}
 use mathlib.Core.Logic.{_⊎_, inl, inr}
 use Prim.Native.Nat.{ℕ, _<_}
 use native.Mathlib.Omega.{arith}
 use lib.Dec.{eqb}
-use borrow.Author.Tests.{eq-eqb, eqb-true, ltb-true, not-false}
+use borrow.Author.Tests.{eqb-true, ltb-true, not-false}
 use Rattle.checks.specs.Checks.{stop-if}
 use Rattle.checks.proofs.Rules.{both-true, either}
 use Rattle.checks.proofs.Tables.{everyBelow, at-below}
@@ -28,7 +28,7 @@ use Rattle.texture_plans.specs.declared.TexturePlan.{TexturePlan}
 use Rattle.texture_plans.specs.declared.CopyParts.the-variants.{Whole, DepthStencil, Planes}
 use Rattle.texture_plans.specs.Plan as N
 use Rattle.texture_copies.specs.Plan.{isThis, isPlaneSplit, formatsDiffer}
-use Rattle.texture_regions.specs.Regions.{Copy, Part, part, formatBits, isAsked, chosen, bits, isNv12, parts, dimension, layersOf, layerOf, zOf, depthOf}
+use Rattle.texture_regions.specs.Regions.{Copy, part, formatBits, isAsked, chosen, bits, isNv12, parts, dimension, layersOf, layerOf, zOf, depthOf}
 use Rattle.texture_regions.proofs.Accepted as A
 use Rattle.texture_regions.proofs.States.{partsFor}
 

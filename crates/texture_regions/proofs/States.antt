@@ -1,13 +1,12 @@
 -- The plan behind n regions: its part and its layers are n's, and its region is the copy's n-th.
 -- Assumes nothing.
 use mathlib.Core.Path.{_≡_, refl, sym, ap, _∙_}
-use mathlib.Core.Bool.{Bool, true, false}
 use mathlib.Core.List.{List, [], _∷_}
 use mathlib.Core.Logic.{_⊎_, inl, inr}
-use Prim.Native.Nat.{ℕ, zero, suc, _+_, _*_, _/_, _%_, _^_, _≤_, _<_}
+use Prim.Native.Nat.{ℕ, zero, suc, _+_, _/_, _%_, _^_, _<_}
 use native.Mathlib.Omega.{arith}
 use native.Mathlib.Nat.{div-one, mod-one, mod-eq-of-lt}
-use borrow.Author.Tests.{eq-eqb, ne-eqb, eqb-true, eqb-false}
+use borrow.Author.Tests.{eq-eqb, ne-eqb}
 use lib.Dec.{eqb}
 use lib.ListN.{length, getD}
 use Rattle.checks.specs.Checks.{pick}
@@ -16,7 +15,6 @@ use Rattle.copies.specs.Copies.{nextLayer}
 use Rattle.texture_plans.specs.declared.TextureSide.{TextureSide}
 use Rattle.texture_plans.specs.declared.CopyParts.{CopyParts}
 use Rattle.texture_plans.specs.declared.CopyParts.the-variants.{Whole, DepthStencil, Planes}
-use Rattle.texture_plans.specs.declared.TextureCopy.{TextureCopy}
 use Rattle.texture_plans.specs.declared.TexturePlan.{TexturePlan}
 use Rattle.texture_plans.specs.Asking as A
 use Rattle.texture_regions.specs.Regions.{Copy, Part, part, dimension, bits, layerOf, zOf, sideOf, sizeOf, regionOf}

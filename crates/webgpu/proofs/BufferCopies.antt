@@ -2,14 +2,12 @@
 -- Assumes nothing.
 use mathlib.Core.Path.{_≡_, refl, sym, ap, _∙_}
 use mathlib.Core.Bool.{Bool, true, false, not, _&&_, _||_, cond}
-use mathlib.Core.List.{List, [], _∷_}
-use Prim.Native.Nat.{ℕ, _%_, _<_}
+use Prim.Native.Nat.{ℕ, _%_}
 use native.Mathlib.Omega.{arith}
-use lib.Dec.{eqb, ltb}
-use lib.ListN.{length}
-use borrow.Author.Tests.{ltb-true, eqb-true, eqb-false, eq-eqb, ne-eqb, not-true, not-false}
-use Rattle.checks.specs.Checks.{pick, every, stop-if}
-use Rattle.checks.proofs.Rules.{both-true, all-true, not-both, went-past, goes-past}
+use lib.Dec.{eqb}
+use borrow.Author.Tests.{eqb-true, eq-eqb, not-true, not-false}
+use Rattle.checks.specs.Checks.{stop-if}
+use Rattle.checks.proofs.Rules.{both-true, not-both, went-past, goes-past}
 use Rattle.checks.proofs.Tables.{everyBelow, at-below}
 use Rattle.measures.specs.declared.OptionU32.{OptionU32}
 use Rattle.measures.specs.declared.OptionU32.the-variants.{Given, Absent}
@@ -26,9 +24,9 @@ use Rattle.refusals.specs.declared.Checked.the-variants as C
 use Rattle.records.specs.declared.Texture.{Texture}
 use Rattle.records.specs.declared.TexelCopyBufferLayout.{TexelCopyBufferLayout}
 use Rattle.format_rules.specs.Rules.{isDepthOnly, srcFormat, dstFormat, offsetAlignment, isUnalignedRow, layoutChecked, textureBufferCopy}
-use Rattle.webgpu.specs.Formats.{Part, none, formats, formatOf, anyDepthOrStencil, isDepthOrStencil, named}
+use Rattle.webgpu.specs.Formats.{none, formats, formatOf, anyDepthOrStencil, isDepthOrStencil, named}
 use Rattle.webgpu.specs.WebGpu.{taken, validOne, bytesOfOne, blockBytes, AlignedLayout, TextureBufferCopy}
-use Rattle.webgpu.specs.Agreement.{bits, footprint, formatRule, InStandard, BufferCopies}
+use Rattle.webgpu.specs.Agreement.{bits, formatRule, InStandard, BufferCopies}
 use Rattle.webgpu.proofs.Rows.{same, same-is, below, row-of, taken-is}
 
 -- ---- the tables, by one test that is computed of every format and aspect

@@ -2,12 +2,12 @@
 -- Assumes nothing.
 use mathlib.Core.Path.{_≡_, refl, sym, ap, _∙_}
 use mathlib.Core.Bool.{Bool, true, false, _||_, cond}
-use mathlib.Core.Logic.{_⊎_, inl, inr, ⊎-elim}
-use Prim.Native.Nat.{ℕ, zero, suc, _+_, _-_, _*_, _/_, _%_, _^_, _≤_, _<_}
+use mathlib.Core.Logic.{_⊎_, ⊎-elim}
+use Prim.Native.Nat.{ℕ, _+_, _-_, _*_, _/_, _%_, _^_, _≤_, _<_}
 use native.Mathlib.Omega.{arith}
-use native.Mathlib.Nat.{mul-comm, mul-le-mul, mul-assoc, zero-mul, add-mul, suc-mul, mul-zero}
+use native.Mathlib.Nat.{mul-comm, mul-le-mul, zero-mul, mul-zero}
 use lib.Dec.{eqb, ltb}
-use borrow.Author.Tests.{lt-ltb, le-ltb, ltb-true, ltb-false, eq-eqb, ne-eqb}
+use borrow.Author.Tests.{lt-ltb, ltb-true, ltb-false}
 use Rattle.checks.specs.Checks.{pick}
 use Rattle.checks.proofs.Rules.{either}
 use Rattle.measures.specs.declared.Extent3d.{Extent3d}
@@ -25,12 +25,11 @@ use Rattle.linear.specs.declared.LinearData.{LinearData}
 use Rattle.linear.specs.declared.LinearChecked.the-variants as N
 use Rattle.linear.specs.Linear as linear
 use Rattle.linear.specs.Linear.{lacks, stacked, severalRows, severalImages, dataOf, denseOf, linearData}
-use Rattle.linear.specs.Laws.{rowStride, imageRows, imageStride, imageBytes, totalBytes, given, LinearLaws}
+use Rattle.linear.specs.Laws.{rowStride, imageRows, imageStride, imageBytes, totalBytes, given}
 use Rattle.linear.proofs.Accepted.{every-linear}
 use Rattle.webgpu.specs.Formats.{formatOf}
-use Rattle.webgpu.specs.WebGpu.{blockBytes, orZero, IsGiven, AtLeast, bytesInLastRow, requiredBytesInCopy, LinearTextureData}
-use Rattle.webgpu.specs.Agreement as A
-use Rattle.webgpu.specs.Agreement.{InStandard, Fits32, Figures, LinearAgreement, LinearRules, Standard, requiredBytes}
+use Rattle.webgpu.specs.WebGpu.{blockBytes, orZero, IsGiven, AtLeast, requiredBytesInCopy}
+use Rattle.webgpu.specs.Agreement.{InStandard, Fits32, Figures, LinearRules, Standard, requiredBytes}
 use Rattle.webgpu.proofs.Rows.{row-of, bytes-are}
 
 -- ---- given or absent

@@ -3,16 +3,14 @@
 use mathlib.Core.Path.{_≡_, refl, sym, ap, _∙_}
 use mathlib.Core.Bool.{Bool, true, false, not, cond}
 use mathlib.Core.List.{List, [], _∷_}
-use mathlib.Core.Logic.{_⊎_, inl, inr, _↔_}
-use Prim.Native.Nat.{ℕ, _+_, _<_}
+use mathlib.Core.Logic.{_⊎_, inl, inr}
+use Prim.Native.Nat.{ℕ, _<_}
 use native.Mathlib.Omega.{arith}
 use lib.Dec.{eqb, ltb}
-use lib.ListN.{length}
-use borrow.Author.Tests.{ltb-true, ltb-false, lt-ltb, eqb-true, eqb-false, eq-eqb}
+use borrow.Author.Tests.{ltb-true, ltb-false, lt-ltb, eqb-true, eqb-false}
 use Rattle.checks.specs.Checks.{pick, every, stop-if}
 use Rattle.checks.proofs.Rules.{all-true}
 use Rattle.checks.proofs.Tables.{everyBelow, at-below}
-use Rattle.measures.specs.declared.OptionU32.{OptionU32}
 use Rattle.measures.specs.declared.OptionU32.the-variants.{Given, Absent}
 use Rattle.measures.specs.Measure.{orElse}
 use Rattle.flags.specs.Flags.{holds, met}
@@ -23,7 +21,7 @@ use Rattle.formats.specs.Aspects.{askedOf, chosenAspects, bytesOf, blockCopySiz
 use Rattle.linear.specs.Linear as N
 use Rattle.webgpu.specs.Formats.{Part, none, formats, Known, formatOf, anyDepthOrStencil, isDepthOrStencil, namedOf, named}
 use Rattle.webgpu.specs.WebGpu.{bytesOfOne, taken, blockBytes}
-use Rattle.webgpu.specs.Agreement.{bits, footprint, Row, FormatTable, InStandard}
+use Rattle.webgpu.specs.Agreement.{bits, Row, FormatTable, InStandard}
 
 abbrev pub same : Bool → Bool → Bool
 same true t = t

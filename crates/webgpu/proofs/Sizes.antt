@@ -1,6 +1,6 @@
 -- Level sizes and level counts against the standard's.
 -- Assumes nothing.
-use mathlib.Core.Path.{_≡_, refl, sym, ap, _∙_}
+use mathlib.Core.Path.{_≡_, refl, ap, _∙_}
 use mathlib.Core.Bool.{Bool, true, false, cond}
 use Prim.Native.Nat.{ℕ, _+_, _-_, _*_, _/_, _%_, _^_, _≤_, _<_, max}
 use native.Mathlib.Omega.{arith}
@@ -13,15 +13,14 @@ use Rattle.measures.proofs.Rounding.{blocks-of-whole, blocks-of-rest}
 use Rattle.measures.specs.declared.Extent3d.{Extent3d}
 use Rattle.levels.specs.declared.TextureDimension.{TextureDimension}
 use Rattle.levels.specs.declared.TextureDimension.the-variants.{D1, D2, D3}
-use Rattle.levels.specs.Level.{halved, sideAt, mipLevelSize, maxMipLevels}
+use Rattle.levels.specs.Level.{sideAt, mipLevelSize, maxMipLevels}
 use Rattle.levels.specs.Level as levels
 use Rattle.levels.proofs.Halving.{level-laws, reaches, reached}
 use Rattle.formats.proofs.Rows.{every-format}
-use Rattle.records.specs.declared.Texture.{Texture}
 use Rattle.records.specs.Bounds as B
 use Rattle.records.specs.Extents.{logicalExtent, physicalExtent}
-use Rattle.webgpu.specs.Formats.{formatOf, dimensionOf}
-use Rattle.webgpu.specs.WebGpu.{halfAt, extent, logicalSize, toBlock, physicalSubresourceSize, mipSide, MaxMipLevelCount}
+use Rattle.webgpu.specs.Formats.{dimensionOf}
+use Rattle.webgpu.specs.WebGpu.{halfAt, logicalSize, toBlock, physicalSubresourceSize, mipSide}
 use Rattle.webgpu.specs.Agreement.{LogicalExtents, PhysicalExtents, LevelCounts}
 use Rattle.webgpu.proofs.Rows.{row-of}
 

@@ -4,10 +4,10 @@ use mathlib.Core.Path.{_≡_, refl, sym, ap, _∙_}
 use mathlib.Core.Bool.{Bool, true, false, _&&_, _||_}
 use mathlib.Core.List.{List, [], _∷_}
 use mathlib.Core.Logic.{_⊎_, inl, inr, ⊎-elim}
-use Prim.Native.Nat.{ℕ, _+_, _≤_, _<_, max}
+use Prim.Native.Nat.{ℕ, _+_, _<_, max}
 use native.Mathlib.Omega.{arith}
 use lib.Dec.{eqb, ltb}
-use borrow.Author.Tests.{lt-ltb, le-ltb, ltb-true, eq-eqb, ne-eqb, eqb-true, eqb-false}
+use borrow.Author.Tests.{lt-ltb, ltb-true, eq-eqb, eqb-true}
 use Rattle.checks.specs.Checks.{every, stop-if}
 use Rattle.checks.proofs.Rules.{either, both-true, all-true, went-past, goes-past}
 use Rattle.checks.proofs.Tables.{everyBelow, at-below}
@@ -25,7 +25,7 @@ use Rattle.records.specs.declared.Texture.{Texture}
 use Rattle.records.specs.declared.TexelCopyTextureInfo.{TexelCopyTextureInfo}
 use Rattle.selectors.specs.Selector.{overlaps, sameTextureChecked}
 use Rattle.webgpu.specs.Formats.{Aspect, Color, Depth, Stencil, Part, formats, Known, formatOf, named, dimensionOf}
-use Rattle.webgpu.specs.WebGpu.{Subresource, Among, InSet, LayerOf, Disjoint}
+use Rattle.webgpu.specs.WebGpu.{Subresource, Among, InSet, LayerOf}
 use Rattle.webgpu.specs.Agreement.{bits, layersOf, MovesWithin, AllowsWithin, SameTexture, SameTextureParts}
 use Rattle.webgpu.proofs.Rows.{same, same-is, decided, below, row-of}
 

@@ -3,23 +3,21 @@
 use mathlib.Core.Path.{_≡_, refl, sym, ap, _∙_}
 use mathlib.Core.Bool.{Bool, true, false, _||_}
 use mathlib.Core.Logic.{_⊎_, inl, inr, ⊎-elim}
-use Prim.Native.Nat.{ℕ, _<_}
 use native.Mathlib.Omega.{arith}
 use lib.Dec.{ltb}
 use borrow.Author.Tests.{lt-ltb, ltb-true}
 use Rattle.checks.proofs.Rules.{either}
 use Rattle.measures.specs.declared.Extent3d.{Extent3d}
 use Rattle.formats.specs.Sheet.{blockWidth, blockHeight, isDepthStencil}
-use Rattle.refusals.specs.declared.CopySide.{CopySide}
 use Rattle.records.specs.declared.Texture.{Texture}
 use Rattle.records.specs.declared.TexelCopyTextureInfo.{TexelCopyTextureInfo}
 use Rattle.records.specs.Extents.{physicalExtent}
-use Rattle.ranges.specs.Range.{requiresExactSize, copyExtent, arrayLayerCount, rangeChecked}
+use Rattle.ranges.specs.Range.{requiresExactSize, copyExtent, arrayLayerCount}
 use Rattle.ranges.specs.Laws.{RangeLaws}
 use Rattle.ranges.proofs.Accepted.{every-range}
-use Rattle.webgpu.specs.Formats.{Known, formatOf, isDepthOrStencil}
-use Rattle.webgpu.specs.WebGpu.{physicalSubresourceSize, CopiedWhole, Reading, WithLayers, OneLayer, IsWhole, TextureCopyRange, TexelCopyTexture}
-use Rattle.webgpu.specs.Agreement.{GoesOn, SomeLayers, Excepted, Ranges, RangesPart}
+use Rattle.webgpu.specs.Formats.{Known, formatOf}
+use Rattle.webgpu.specs.WebGpu.{physicalSubresourceSize, CopiedWhole, Reading, WithLayers, OneLayer, IsWhole, TexelCopyTexture}
+use Rattle.webgpu.specs.Agreement.{Excepted, Ranges, RangesPart}
 use Rattle.webgpu.proofs.Rows.{decided, row-of}
 use Rattle.webgpu.proofs.Sizes.{physical-extents}
 

@@ -2,7 +2,7 @@
 -- document 01's number, which is its place here. NV12 (21) is not in the standard.
 use mathlib.Core.Bool.{Bool, true, false, _&&_, _||_, cond}
 use mathlib.Core.List.{List, [], _∷_}
-use Prim.Native.Nat.{ℕ, _+_, _<_}
+use Prim.Native.Nat.{ℕ, _<_}
 use lib.Dec.{eqb}
 use lib.ListN.{length, getD}
 use Rattle.levels.specs.declared.TextureDimension.{TextureDimension}

@@ -7,7 +7,6 @@ use mathlib.Core.Logic.{_⊎_}
 use Prim.Native.Nat.{ℕ, _+_, _-_, _*_, _/_, _%_, _^_, _≤_, _<_, max}
 use lib.Dec.{eqb}
 use Rattle.measures.specs.declared.Extent3d.{Extent3d}
-use Rattle.measures.specs.declared.Origin3d.{Origin3d}
 use Rattle.measures.specs.declared.OptionU32.{OptionU32}
 use Rattle.measures.specs.declared.OptionU32.the-variants as O
 use Rattle.measures.specs.declared.OptionU64.{OptionU64}
@@ -19,7 +18,7 @@ use Rattle.records.specs.declared.Buffer.{Buffer}
 use Rattle.records.specs.declared.Texture.{Texture}
 use Rattle.records.specs.declared.TexelCopyTextureInfo.{TexelCopyTextureInfo}
 use Rattle.records.specs.declared.TexelCopyBufferLayout.{TexelCopyBufferLayout}
-use Rattle.webgpu.specs.Formats.{Aspect, Part, Format, formatOf, isDepthOrStencil, named, dimensionOf, copyCompatible}
+use Rattle.webgpu.specs.Formats.{Aspect, Part, formatOf, isDepthOrStencil, named, dimensionOf, copyCompatible}
 
 -- ---- usages: a flag, a power of two, is set in a word
 

@@ -1,30 +1,31 @@
 -- The examples: the standard's rules one by one, and the planner's answer by the claims on whole copies.
 -- Assumes nothing.
 use mathlib.Core.Path.{_≡_, refl, sym, ap, _∙_}
-use mathlib.Core.Bool.{Bool, true, false}
+use mathlib.Core.Bool.{true, false}
 use mathlib.Core.Logic.{_⊎_, inl, inr}
 use Prim.Native.Nat.{ℕ, _+_, _%_, _≤_, _<_}
 use native.Mathlib.Omega.{arith}
+use native.Mathlib.Nat.{mod-one}
 use Rattle.checks.specs.Checks.{stop-if}
 use Rattle.measures.specs.declared.Extent3d.{Extent3d}
 use Rattle.measures.specs.Measure.{multiple}
 use Rattle.measures.specs.declared.OptionU32.the-variants.{Given, Absent}
 use Rattle.measures.specs.declared.OptionU64.the-variants as L
+use Rattle.formats.specs.declared.TextureAspect.{TextureAspect}
 use Rattle.formats.specs.declared.TextureAspect.the-variants.{All, DepthOnly}
 use Rattle.levels.specs.declared.TextureDimension.the-variants.{D2}
 use Rattle.levels.specs.Level as levels
 use Rattle.formats.specs.Sheet as sheet
-use Rattle.records.specs.declared.Buffer.{Buffer}
 use Rattle.records.specs.declared.Device.{Device}
 use Rattle.records.specs.declared.Texture.{Texture}
 use Rattle.records.specs.Bounds as records
 use Rattle.records.specs.Bounds.{bufferInBounds, textureInBounds}
-use Rattle.webgpu.specs.Formats.{Color, formats, Known, formatOf, anyDepthOrStencil, isDepthOrStencil, named, dimensionOf, srgbPairs, paired, copyCompatible}
-use Rattle.webgpu.specs.WebGpu.{logicalSize, toBlock, physicalSubresourceSize, requiredBytesInCopy, taken, blockBytes, Reading, WithLayers, OneLayer, IsWhole, TexelCopyTexture, TextureBufferCopy, LinearTextureData, LinearBox, TextureCopyRules}
+use Rattle.webgpu.specs.Formats.{Color, formats, formatOf, anyDepthOrStencil, isDepthOrStencil, named, dimensionOf, copyCompatible}
+use Rattle.webgpu.specs.WebGpu.{logicalSize, toBlock, physicalSubresourceSize, CopiedWhole, Reading, WithLayers, OneLayer, IsWhole, TexelCopyTexture, requiredBytesInCopy, taken, blockBytes}
 use Rattle.webgpu.specs.Agreement.{MovesWithin, SomeLayers}
 use Rattle.webgpu_copies.specs.Bounds.{BufferInBounds, TextureInBounds}
-use Rattle.webgpu_copies.specs.WholeCopies.{Copy, planned, GivesPlan, StandardCopy, Compared, DepthRestricted, AspectLacking, CopyExcepted, Rules, OutOfBounds, OntoItself}
-use Rattle.webgpu_copies.specs.Examples.{device, buffer, extent, texture, viewAt, Buffers, StandardBuffers, Standard, depthless, colorDepth, layerOne, noLayer, side, OntoZ1, StandardOntoZ1, Examples}
+use Rattle.webgpu_copies.specs.WholeCopies.{Copy, planned, GivesPlan, StandardCopy, Compared, CopyExcepted, Rules}
+use Rattle.webgpu_copies.specs.Examples.{device, buffer, extent, texture, viewAt, StandardBuffers, Standard, tooWide, depthless, colorDepth, layerOne, noLayer, side, OntoZ1, StandardOntoZ1, Examples}
 use Rattle.webgpu_copies.proofs.Lines.{opposite}
 use Rattle.webgpu_copies.proofs.Records.{record-bounds}
 use Rattle.webgpu_copies.proofs.Buffers.{buffer-to-buffer-parts}
@@ -44,6 +45,22 @@ indexed = record { different = refl; src-usage = refl; dst-usage = refl; size-al
 absent : {n : ℕ} {C : Type 0} → Absent ≡ Given n → C
 absent e = let z : _≡_ {A = ℕ} 0 1 = cc in absurd (omega arith)
 
+-- a view of the first level at x 0, y 0, of blocks of one texel
+first-level :
+    (reading : Reading) (format dimension z : ℕ) (size copied : Extent3d) (aspect : TextureAspect) → formatOf format .blockWidth ≡ 1 → formatOf format .blockHeight ≡ 1
+    → let t = texture format dimension size in
+    let level = physicalSubresourceSize t 0 in
+    (CopiedWhole t → IsWhole reading level copied) → copied .width ≤ level .width → copied .height ≤ level .height → z + copied .«depth_or_array_layers» ≤ level .«depth_or_array_layers»
+    → TexelCopyTexture reading t (viewAt z aspect) copied
+first-level reading format dimension z size copied aspect w h whole x y deep =
+    record {
+      level = omega arith;
+      x-aligned = rw w;
+      y-aligned = rw h;
+      whole = whole;
+      range = record { x = omega arith; y = omega arith; z = deep; width = rw w (mod-one _); height = rw h (mod-one _) };
+    }
+
 -- one texel of a texture of one texel
 one-texel : (reading : Reading) → IsWhole reading (extent 1 1 1) (extent 1 1 1)
 one-texel WithLayers = refl
@@ -55,7 +72,24 @@ depthless-holds reading =
     record {
       buffer-usage = refl;
       texture-usage = refl;
-      view-valid = record { level = omega arith; x-aligned = refl; y-aligned = refl; whole = λ w. one-texel reading; range = record { x = omega arith; y = omega arith; z = omega arith; width = refl; height = refl } };
+      view-valid = first-level reading 16 2 0 (extent 1 1 1) (extent 1 1 1) All refl refl (λ w. one-texel reading) (omega arith) (omega arith) (omega arith);
+      suits = record { one-sample = refl; allowed = refl; layout-aligned = λ a. record { depth-stencil = λ e. refl; other = λ e. refl; row = λ n e. absent e } };
+      linear = record { rows-given = λ h. absurd (omega arith); images-given = λ h. absurd (omega arith); row-fits = tt; image-fits = tt; inside = omega arith };
+    }
+
+-- a color format of one sample is not copied whole
+not-whole : {C : Type 0} → CopiedWhole (texture 0 2 (extent 8193 1 1)) → C
+unfolding formats formatOf anyDepthOrStencil isDepthOrStencil
+not-whole (inl e) = opposite false e refl
+not-whole (inr h) = absurd (omega arith)
+
+wide-holds : Standard tooWide
+unfolding formats formatOf anyDepthOrStencil isDepthOrStencil named dimensionOf logicalSize toBlock physicalSubresourceSize taken blockBytes requiredBytesInCopy
+wide-holds reading =
+    record {
+      buffer-usage = refl;
+      texture-usage = refl;
+      view-valid = first-level reading 0 2 0 (extent 8193 1 1) (extent 1 1 1) All refl refl not-whole (omega arith) (omega arith) (omega arith);
       suits = record { one-sample = refl; allowed = refl; layout-aligned = λ a. record { depth-stencil = λ e. refl; other = λ e. refl; row = λ n e. absent e } };
       linear = record { rows-given = λ h. absurd (omega arith); images-given = λ h. absurd (omega arith); row-fits = tt; image-fits = tt; inside = omega arith };
     }
@@ -66,7 +100,7 @@ color-holds reading =
     record {
       buffer-usage = refl;
       texture-usage = refl;
-      view-valid = record { level = omega arith; x-aligned = refl; y-aligned = refl; whole = λ w. one-texel reading; range = record { x = omega arith; y = omega arith; z = omega arith; width = refl; height = refl } };
+      view-valid = first-level reading 0 2 0 (extent 1 1 1) (extent 1 1 1) DepthOnly refl refl (λ w. one-texel reading) (omega arith) (omega arith) (omega arith);
       suits = record { one-sample = refl; allowed = refl; layout-aligned = λ a. record { depth-stencil = λ e. refl; other = λ e. refl; row = λ n e. absent e } };
       linear = record { rows-given = λ h. absurd (omega arith); images-given = λ h. absurd (omega arith); row-fits = tt; image-fits = tt; inside = omega arith };
     }
@@ -80,7 +114,7 @@ layer-holds =
     record {
       buffer-usage = refl;
       texture-usage = refl;
-      view-valid = record { level = omega arith; x-aligned = refl; y-aligned = refl; whole = λ w. (refl, refl); range = record { x = omega arith; y = omega arith; z = omega arith; width = refl; height = refl } };
+      view-valid = first-level OneLayer 19 2 1 (extent 8 8 2) (extent 8 8 1) All refl refl (λ w. (refl, refl)) (omega arith) (omega arith) (omega arith);
       suits = record { one-sample = refl; allowed = refl; layout-aligned = λ a. record { depth-stencil = λ e. refl; other = λ e. refl; row = whole-rows } };
       linear = record { rows-given = λ h. tt; images-given = λ h. absurd (omega arith); row-fits = omega arith; image-fits = tt; inside = omega arith };
     }
@@ -91,7 +125,7 @@ none-holds =
     record {
       buffer-usage = refl;
       texture-usage = refl;
-      view-valid = record { level = omega arith; x-aligned = refl; y-aligned = refl; whole = λ w. (refl, refl); range = record { x = omega arith; y = omega arith; z = omega arith; width = refl; height = refl } };
+      view-valid = first-level OneLayer 15 2 0 (extent 1 1 2) (extent 1 1 0) All refl refl (λ w. (refl, refl)) (omega arith) (omega arith) (omega arith);
       suits = record { one-sample = refl; allowed = refl; layout-aligned = λ a. record { depth-stencil = λ e. refl; other = λ e. refl; row = λ n e. absent e } };
       linear = record { rows-given = λ h. absurd (omega arith); images-given = λ h. absurd (omega arith); row-fits = tt; image-fits = tt; inside = omega arith };
     }
@@ -139,33 +173,23 @@ volume = texture 0 3 (extent 4 4 4)
 abbrev line : Texture
 line = texture 0 1 (extent 1 1 1)
 
+-- a texture of r8unorm onto itself, by every rule but the last
+r8unorm-rules :
+    (dimension : ℕ) (size copied : Extent3d) → let level = physicalSubresourceSize (texture 0 dimension size) 0 in
+    (level .width ≡ copied .width) × (level .height ≡ copied .height) → 1 + copied .«depth_or_array_layers» ≤ level .«depth_or_array_layers»
+    → Rules 0 0 (side (texture 0 dimension size) 0) (side (texture 0 dimension size) 1) copied OneLayer
+unfolding formats formatOf named copyCompatible
+r8unorm-rules dimension size copied whole deep =
+    let valid : (z : ℕ) → z ≤ 1 → TexelCopyTexture OneLayer (texture 0 dimension size) (viewAt z All) copied = λ z l. first-level OneLayer 0 dimension z size copied All refl refl (λ w. whole) (omega arith) (omega arith) (omega arith) in
+    record { src-valid = valid 0 (omega arith); dst-valid = valid 1 (omega arith); src-usage = refl; dst-usage = refl; samples = refl; compatible = refl; src-aspects = refl; dst-aspects = refl }
+
 volume-rules : Rules 0 0 (side volume 0) (side volume 1) (extent 4 4 2) OneLayer
-unfolding formats formatOf anyDepthOrStencil isDepthOrStencil named dimensionOf logicalSize toBlock physicalSubresourceSize srgbPairs paired copyCompatible
-volume-rules =
-    record {
-      src-valid = record { level = omega arith; x-aligned = refl; y-aligned = refl; whole = λ w. (refl, refl); range = record { x = omega arith; y = omega arith; z = omega arith; width = refl; height = refl } };
-      dst-valid = record { level = omega arith; x-aligned = refl; y-aligned = refl; whole = λ w. (refl, refl); range = record { x = omega arith; y = omega arith; z = omega arith; width = refl; height = refl } };
-      src-usage = refl;
-      dst-usage = refl;
-      samples = refl;
-      compatible = refl;
-      src-aspects = refl;
-      dst-aspects = refl;
-    }
+unfolding formats formatOf dimensionOf logicalSize toBlock physicalSubresourceSize
+volume-rules = r8unorm-rules 3 (extent 4 4 4) (extent 4 4 2) (refl, refl) (omega arith)
 
 line-rules : Rules 0 0 (side line 0) (side line 1) (extent 1 1 0) OneLayer
-unfolding formats formatOf anyDepthOrStencil isDepthOrStencil named dimensionOf logicalSize toBlock physicalSubresourceSize srgbPairs paired copyCompatible
-line-rules =
-    record {
-      src-valid = record { level = omega arith; x-aligned = refl; y-aligned = refl; whole = λ w. (refl, refl); range = record { x = omega arith; y = omega arith; z = omega arith; width = refl; height = refl } };
-      dst-valid = record { level = omega arith; x-aligned = refl; y-aligned = refl; whole = λ w. (refl, refl); range = record { x = omega arith; y = omega arith; z = omega arith; width = refl; height = refl } };
-      src-usage = refl;
-      dst-usage = refl;
-      samples = refl;
-      compatible = refl;
-      src-aspects = refl;
-      dst-aspects = refl;
-    }
+unfolding formats formatOf dimensionOf logicalSize toBlock physicalSubresourceSize
+line-rules = r8unorm-rules 1 (extent 1 1 1) (extent 1 1 0) (refl, refl) (omega arith)
 
 -- one level, at two z, of a texture without layers
 moves : (t : Texture) → (dimensionOf (t .dimension) ≡ D2 → ⊥) → t .format ≡ 0 → MovesWithin t (viewAt 0 All) (viewAt 1 All)
@@ -202,6 +226,10 @@ volume-bounds = (refl, refl)
 known : (depthless .texture .format < 21) × (colorDepth .texture .format < 21)
 known = (omega arith, omega arith)
 
+too-wide : TextureInBounds (tooWide .texture) → ⊥
+unfolding dimensionOf
+too-wide b = omega (arith, b .size .0 .1)
+
 too-large : BufferInBounds (buffer 268435457 4) → ⊥
 too-large b = omega (arith, b .size)
 
@@ -210,6 +238,7 @@ unfolding formats formatOf anyDepthOrStencil isDepthOrStencil
 examples =
     record {
       large = (large, buffer-to-buffer-parts (device true true) 0 1 (buffer 268435457 4) (buffer 4 8) 0 0 (L.Given 4) (inl too-large));
+      wide = (wide-holds, copies-part .planner true tooWide (known .1) (inr (inl too-wide)));
       index = (indexed, buffer-to-buffer-parts (device true false) 0 1 (buffer 4 20) (buffer 4 40) 0 0 (L.Given 4) (inr (inr (record { fact = refl; index = inl refl; shared = inr (inl refl) }))));
       depth = (depthless-holds, copies-part .planner true depthless (known .0) (inr (inr (inl (refl, refl)))));
       color = (color-holds, copies-part .planner true colorDepth (known .1) (inr (inr (inr (refl, λ e. let z : _≡_ {A = ℕ} 0 1 = cc in omega arith)))));

@@ -1,12 +1,12 @@
 -- The planner's bounds of records are document 01's.
 -- Assumes nothing.
-use mathlib.Core.Path.{_≡_, refl, sym, ap, _∙_}
+use mathlib.Core.Path.{_≡_, refl, _∙_}
 use mathlib.Core.Bool.{Bool, true, false, not, _&&_, _||_, cond}
 use mathlib.Core.List.{[], _∷_}
 use mathlib.Core.Logic.{_⊎_, inl, inr, ⊎-elim}
-use Prim.Native.Nat.{ℕ, _-_, _/_, _%_, _^_, _≤_, _<_, max}
+use Prim.Native.Nat.{ℕ, _-_, _/_, _%_, _^_, _≤_, _<_}
 use native.Mathlib.Omega.{arith}
-use lib.Dec.{eqb, leb, ltb}
+use lib.Dec.{eqb, leb}
 use borrow.Author.Tests.{ltb-true, lt-ltb, leb-true, leb-false, le-leb, eqb-true, eq-eqb}
 use Rattle.checks.specs.Checks.{every}
 use Rattle.checks.proofs.Rules.{both-true, either, all-true}
@@ -16,7 +16,7 @@ use Rattle.measures.specs.Measure.{multiple}
 use Rattle.levels.specs.declared.TextureDimension.{TextureDimension}
 use Rattle.levels.specs.declared.TextureDimension.the-variants.{D1, D2, D3}
 use Rattle.levels.specs.Level as levels
-use Rattle.levels.specs.Level.{halved, maxMipLevels}
+use Rattle.levels.specs.Level.{maxMipLevels}
 use Rattle.levels.proofs.Halving.{level-laws}
 use Rattle.formats.specs.Sheet.{formats, rowOf, isFormat, blockWidth, blockHeight, isMultiPlanar}
 use Rattle.records.specs.declared.Buffer.{Buffer}

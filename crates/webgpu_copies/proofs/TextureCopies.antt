@@ -11,7 +11,6 @@ use Rattle.checks.specs.Checks.{stop-if}
 use Rattle.checks.proofs.Rules.{not-yes, not-no, both-true}
 use Rattle.checks.proofs.Tables.{everyBelow, at-below}
 use Rattle.measures.specs.declared.Extent3d.{Extent3d}
-use Rattle.measures.specs.declared.OptionU32.the-variants as O
 use Rattle.flags.specs.Flags.{holds}
 use Rattle.levels.specs.declared.TextureDimension.{TextureDimension}
 use Rattle.levels.specs.declared.TextureDimension.the-variants.{D1, D2, D3}
@@ -25,8 +24,6 @@ use Rattle.refusals.specs.declared.TransferError.the-variants as E
 use Rattle.refusals.specs.declared.Checked.{Checked}
 use Rattle.refusals.specs.declared.Checked.the-variants as C
 use Rattle.refusals.specs.Answers.{after}
-use Rattle.records.specs.declared.TexelCopyTextureInfo.{TexelCopyTextureInfo}
-use Rattle.records.specs.declared.Texture.{Texture}
 use Rattle.records.specs.Bounds.{textureInBounds, textureChecked}
 use Rattle.ranges.specs.declared.CopyExtent.{CopyExtent}
 use Rattle.ranges.specs.declared.RangeChecked.{RangeChecked}

@@ -1,8 +1,6 @@
 -- The smallest copies at which the planner and the standard part, one for each exception; docs/DIFFERENCES.md has them as sheets.
-use mathlib.Core.Path.{_≡_}
 use mathlib.Core.Bool.{Bool, true, false}
 use Prim.Native.Nat.{ℕ}
-use lib.Dec.{eqb}
 use Rattle.measures.specs.declared.Extent3d.{Extent3d}
 use Rattle.measures.specs.declared.OptionU32.{OptionU32}
 use Rattle.measures.specs.declared.OptionU32.the-variants.{Given, Absent}
@@ -55,6 +53,10 @@ copy d b row t view size =
 abbrev pub Standard : Copy → Type 0
 Standard c = (reading : W.Reading) → StandardCopy reading true c
 
+-- one texel of a texture that is wider than 8,192
+abbrev pub tooWide : Copy
+tooWide = copy (device true true) (buffer 1 8) Absent (texture 0 2 (extent 8193 1 1)) (viewAt 0 All) (extent 1 1 1)
+
 -- depth16unorm of one texel, without the depth fact
 abbrev pub depthless : Copy
 depthless = copy (device false true) (buffer 2 8) Absent (texture 16 2 (extent 1 1 1)) (viewAt 0 All) (extent 1 1 1)
@@ -85,8 +87,9 @@ StandardOntoZ1 t size reading = StandardTextures 0 0 (side t 0) (side t 1) size 
 -- ---- that they part
 
 pub record Examples : Type 0 where
-  -- the planner refuses: 3, 34, 34, 12
+  -- the planner refuses: 3, 2, 34, 34, 12
   pub large : StandardBuffers (buffer 268435457 4) (buffer 4 8) × (Buffers (device true true) (buffer 268435457 4) (buffer 4 8) → ⊥)
+  pub wide : Standard tooWide × (GivesPlan (planned true tooWide) → ⊥)
   pub index : StandardBuffers (buffer 4 20) (buffer 4 40) × (Buffers (device true false) (buffer 4 20) (buffer 4 40) → ⊥)
   pub depth : Standard depthless × (GivesPlan (planned true depthless) → ⊥)
   pub color : Standard colorDepth × (GivesPlan (planned true colorDepth) → ⊥)

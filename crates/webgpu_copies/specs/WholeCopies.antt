@@ -25,7 +25,7 @@ use Rattle.texture_copies.specs.declared.TexturePlanned.{TexturePlanned}
 use Rattle.texture_copies.specs.declared.TexturePlanned.the-variants as X
 use Rattle.webgpu.specs.Formats.{Known, isDepthOrStencil}
 use Rattle.webgpu.specs.WebGpu as W
-use Rattle.webgpu.specs.Agreement.{Excepted, SomeLayers, InStandard, Fits32, MovesWithin}
+use Rattle.webgpu.specs.Agreement.{Excepted, SomeLayers, Fits32, MovesWithin}
 use Rattle.webgpu_copies.specs.Bounds.{BufferInBounds, TextureInBounds}
 -- what is judged
 use Rattle.buffer_copies.specs.BufferCopies.{bufferToBuffer}

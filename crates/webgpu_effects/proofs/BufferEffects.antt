@@ -3,24 +3,20 @@
 use mathlib.Core.Path.{_≡_, refl, sym, ap, _∙_}
 use mathlib.Core.Bool.{Bool, true, false, _||_}
 use mathlib.Core.List.{List}
-use mathlib.Core.Logic.{_⊎_, inl, inr}
 use Prim.Native.Nat.{ℕ, _+_, _-_, _*_, _/_, _%_, _^_, _≤_, _<_}
 use native.Mathlib.Omega.{arith}
 use native.Mathlib.Nat.{mul-le-mul-right}
-use lib.Dec.{eqb, ltb}
+use lib.Dec.{ltb}
 use borrow.Author.Tests.{ne-eqb, lt-ltb}
-use Rattle.checks.specs.Checks.{pick}
 use Rattle.measures.specs.declared.OptionU32.{OptionU32}
 use Rattle.measures.specs.declared.OptionU32.the-variants.{Given, Absent}
-use Rattle.measures.specs.Measure.{blocksOf, orElse}
+use Rattle.measures.specs.Measure.{blocksOf}
 use Rattle.measures.proofs.Rounding.{block-laws}
 use Rattle.levels.specs.declared.TextureDimension.{TextureDimension}
 use Rattle.levels.specs.declared.TextureDimension.the-variants.{D1, D2, D3}
 use Rattle.levels.specs.Level as L
 use Rattle.formats.specs.Sheet as F
-use Rattle.formats.specs.Aspects.{chosenAspects}
 use Rattle.formats.proofs.Rows.{every-format}
-use Rattle.records.specs.Limits.{maxBufferSize, maxSide3d}
 use Rattle.records.proofs.Bounded.{buffer-laws}
 use Rattle.ranges.specs.Range as R
 use Rattle.ranges.specs.Range.{copyExtent, arrayLayerCount}
@@ -33,17 +29,19 @@ use Rattle.copies.specs.Copies.{isEmpty}
 use Rattle.buffer_texture_plans.specs.declared.BufferTextureCopy.{BufferTextureCopy}
 use Rattle.buffer_texture_plans.specs.declared.BufferTexturePlan.{BufferTexturePlan}
 use Rattle.buffer_texture_plans.specs.Plan.{firstRegion, planOf}
-use Rattle.webgpu.specs.Formats.{Aspect, Part, Format, Known, formatOf, dimensionOf}
+use Rattle.webgpu.specs.Formats.{Part, Format, Known, formatOf, dimensionOf}
 use Rattle.webgpu.specs.WebGpu.{orZero, IsGiven}
+use Rattle.webgpu.proofs.Rows.{row-of}
+use Rattle.webgpu.proofs.Sizes.{dimension-is}
 use Rattle.ownership.specs.Copy.{Copy}
 use Rattle.ownership.proofs.Accepted.{Checks, checks-of, planFor}
 use Rattle.ownership.proofs.Asks.{nextRegions, gives, gives-only}
 use Rattle.webgpu_effects.specs.Blocks.{TexelBlock, In}
-use Rattle.webgpu_effects.specs.Standard.{layerOf, sliceOf, blockAt, Stands}
-use Rattle.webgpu_effects.specs.Regions.{orDense, blockFrom, Puts}
+use Rattle.webgpu_effects.specs.Standard.{layerOf, Stands}
+use Rattle.webgpu_effects.specs.Regions.{orDense, Puts}
 use Rattle.webgpu_effects.specs.Effects.{BufferDoes, BufferEffects}
-use Rattle.webgpu_effects.proofs.Formats.{same-blocks, same-dimension, named-has, has-named}
-use Rattle.webgpu_effects.proofs.Figures.{no-zero, depth-some, limit, in-blocks, in-texels, some-blocks, same-block, strides, Image, image-of, layerFor, sliceFor, region-of}
+use Rattle.webgpu_effects.proofs.Formats.{named-has, has-named}
+use Rattle.webgpu_effects.proofs.Figures.{no-zero, depth-some, limit, in-blocks, in-texels, some-blocks, same-block, strides, image-of, layerFor, sliceFor, region-of}
 use Rattle.webgpu_effects.proofs.Sides.{Side, side-of}
 use Rattle.webgpu_effects.proofs.Numbered.{numbered, Unwrapped, number-of, of-number}
 
@@ -89,7 +87,7 @@ module _ (c : Copy) (p : BufferTexturePlan) (k : Checks (c .reads) c p) (known :
   side = side-of (c .texture) (c .view) (c .size) (k .texture-bounds) (k .range) known
 
   deep : z + d ≤ limit v
-  deep = rw (same-dimension (c .texture .dimension)) (side .deep)
+  deep = rw (dimension-is (c .texture .dimension)) (side .deep)
 
   -- ---- how many regions
 
@@ -152,7 +150,7 @@ module _ (c : Copy) (p : BufferTexturePlan) (k : Checks (c .reads) c p) (known :
   rows-are : blocksOf (c .size .height) (F.blockHeight (c .texture .format)) ≡ high
   rows-are =
       block-laws _ (every-format (c .texture .format) .height-some) .quotient (c .size .height) (k .range .height-whole)
-      ∙ ap (λ (n : ℕ). c .size .height / n) (same-blocks (c .texture .format) known .1)
+      ∙ ap (λ (n : ℕ). c .size .height / n) (row-of (c .texture .format) known .height)
 
   several-rows : (n : ℕ) → 0 < n → n < high → IsGiven bytesPerRow
   unfolding denseOf severalRows
@@ -184,7 +182,7 @@ module _ (c : Copy) (p : BufferTexturePlan) (k : Checks (c .reads) c p) (known :
         column = x .1;
         row = y .1;
         image = im .below;
-        block = q .block ∙ rw (← same-dimension (c .texture .dimension), x .0, y .0) (same-block (im .layer) (im .slice) refl refl);
+        block = q .block ∙ rw (← dimension-is (c .texture .dimension), x .0, y .0) (same-block (im .layer) (im .slice) refl refl);
         at = q .at ∙ at-byte m (q .dz) (m + q .dz) _ _ (q .part) refl (im .below) (y .1);
       }
 
@@ -208,7 +206,7 @@ module _ (c : Copy) (p : BufferTexturePlan) (k : Checks (c .reads) c p) (known :
           x = x .0;
           y = y .0;
           z = im .deep;
-          block = q .block ∙ rw (← same-dimension (c .texture .dimension)) (same-block (sym (im .layer)) (sym (im .slice)) refl refl);
+          block = q .block ∙ rw (← dimension-is (c .texture .dimension)) (same-block (sym (im .layer)) (sym (im .slice)) refl refl);
           grid = (ap (λ (t : TexelBlock). t .x % f .blockWidth) (q .block) ∙ x .1, ap (λ (t : TexelBlock). t .y % f .blockHeight) (q .block) ∙ y .1);
           at = q .at ∙ rw (x .2, y .2) (sym (at-byte m (sliceFor v (q .k)) (q .k) (q .i) (q .j) (q .part) (im .sum) (q .image) (q .row)));
         },

@@ -1,28 +1,24 @@
--- The standard's formats and document 01's: the same blocks, and the aspects that a view names are those of the chosen bits. By
--- tests that are computed of every format of the standard.
+-- The aspects of the standard's formats: those that a view names are those of the chosen bits. By tests that are computed of every
+-- format of the standard.
 -- Assumes nothing.
 use mathlib.Core.Path.{_≡_, refl, sym, ap, _∙_}
 use mathlib.Core.Bool.{Bool, true, false, _&&_, _||_, cond}
 use mathlib.Core.List.{List, [], _∷_}
 use mathlib.Core.Logic.{_⊎_, inl, inr}
-use Prim.Native.Nat.{ℕ, _/_, _%_, _<_}
+use Prim.Native.Nat.{ℕ, _/_, _%_}
 use native.Mathlib.Omega.{arith}
 use lib.Dec.{eqb}
-use lib.ListN.{length}
 use borrow.Author.Tests.{eqb-true, eq-eqb}
-use Rattle.checks.specs.Checks.{stop-if}
 use Rattle.checks.proofs.Rules.{both-true, either}
 use Rattle.checks.proofs.Tables.{everyBelow, at-below}
 use Rattle.flags.specs.Flags.{holds, met}
-use Rattle.levels.specs.Level as L
-use Rattle.levels.specs.declared.TextureDimension.{TextureDimension}
-use Rattle.levels.specs.declared.TextureDimension.the-variants.{D1, D2, D3}
 use Rattle.formats.specs.declared.TextureAspect.{TextureAspect}
 use Rattle.formats.specs.declared.TextureAspect.the-variants.{All, StencilOnly, DepthOnly, Plane0, Plane1, Plane2}
 use Rattle.formats.specs.Sheet as S
 use Rattle.formats.specs.Sheet.{rowOf, aspectsOf, removeSrgb}
 use Rattle.formats.specs.Aspects.{askedOf, chosenAspects}
-use Rattle.webgpu.specs.Formats.{Aspect, Color, Depth, Stencil, Part, Format, formats, Known, formatOf, isColor, names, namedOf, named, dimensionOf}
+use Rattle.webgpu.specs.Formats.{Aspect, Color, Depth, Stencil, Part, formats, Known, formatOf, isColor, names, namedOf, named}
+use Rattle.webgpu.proofs.Rows.{same, same-is, below}
 use Rattle.webgpu_effects.specs.Blocks.{In, first, later}
 use Rattle.webgpu_effects.specs.Regions.{bitOf}
 
@@ -43,17 +39,6 @@ bit-has word aspect e = eq-eqb _ 1 e
 
 -- ---- the aspects that a view names
 
-same : Bool → Bool → Bool
-same true t = t
-same false true = false
-same false false = true
-
-same-true : (s t : Bool) → same s t ≡ true → s ≡ t
-unfolding same
-same-true true t e = sym e
-same-true false true e = e
-same-true false false e = refl
-
 allSame : TextureAspect → ℕ → List Part → Bool
 allSame asked word [] = true
 allSame asked word (p ∷ ps) = same (names asked (p .aspect)) (hasB word (p .aspect)) && allSame asked word ps
@@ -62,17 +47,13 @@ sameAspects : TextureAspect → ℕ → Bool
 sameAspects asked format = allSame asked (chosenAspects format asked) (formatOf format .parts)
 
 all-aspects : (asked : TextureAspect) → everyBelow (sameAspects asked) 21 ≡ true
-unfolding sameAspects allSame same hasB formatOf formats chosenAspects askedOf aspectsOf rowOf S.formats met holds
+unfolding sameAspects allSame hasB formatOf formats chosenAspects askedOf aspectsOf rowOf S.formats met holds
 all-aspects All = refl
 all-aspects StencilOnly = refl
 all-aspects DepthOnly = refl
 all-aspects Plane0 = refl
 all-aspects Plane1 = refl
 all-aspects Plane2 = refl
-
-pub known-below : (format : ℕ) → Known format → format < 21
-unfolding formats
-known-below format k = k
 
 no : {C : Type 0} → _≡_ {A = Bool} true false → C
 no e = let z : _≡_ {A = ℕ} 0 1 = cc in absurd (omega arith)
@@ -84,7 +65,7 @@ module _ (asked : TextureAspect) (word : ℕ) (part : Part) where
   from-named : (ps : List Part) → allSame asked word ps ≡ true → In part (namedOf ps asked) → In part ps × HasBit word (part .aspect)
   unfolding allSame
   from-named [] e h = nowhere h
-  from-named (p ∷ ps) e h = let b = both-true _ _ e in go (names asked (p .aspect)) (same-true _ _ (b .0)) (from-named ps (b .1)) h
+  from-named (p ∷ ps) e h = let b = both-true _ _ e in go (names asked (p .aspect)) (same-is _ _ (b .0)) (from-named ps (b .1)) h
     where
       go :
           (t : Bool) → t ≡ hasB word (p .aspect) → (In part (namedOf ps asked) → In part ps × HasBit word (part .aspect))
@@ -96,7 +77,7 @@ module _ (asked : TextureAspect) (word : ℕ) (part : Part) where
   to-named : (ps : List Part) → allSame asked word ps ≡ true → HasBit word (part .aspect) → In part ps → In part (namedOf ps asked)
   unfolding allSame
   to-named [] e k h = nowhere h
-  to-named (p ∷ ps) e k h = let b = both-true _ _ e in go (names asked (p .aspect)) (same-true _ _ (b .0)) (to-named ps (b .1) k) h
+  to-named (p ∷ ps) e k h = let b = both-true _ _ e in go (names asked (p .aspect)) (same-is _ _ (b .0)) (to-named ps (b .1) k) h
     where
       go :
           (t : Bool) → t ≡ hasB word (p .aspect) → (In part ps → In part (namedOf ps asked)) → In part (p ∷ ps)
@@ -109,7 +90,7 @@ module _ (asked : TextureAspect) (word : ℕ) (part : Part) where
 module _ (format : ℕ) (asked : TextureAspect) (known : Known format) (part : Part) where
   agreed : allSame asked (chosenAspects format asked) (formatOf format .parts) ≡ true
   unfolding sameAspects
-  agreed = at-below (sameAspects asked) 21 (all-aspects asked) format (known-below format known)
+  agreed = at-below (sameAspects asked) 21 (all-aspects asked) format (below format known)
 
   pub named-has : In part (named (formatOf format) asked) → In part (formatOf format .parts) × HasBit (chosenAspects format asked) (part .aspect)
   unfolding named
@@ -118,21 +99,6 @@ module _ (format : ℕ) (asked : TextureAspect) (known : Known format) (part : P
   pub has-named : In part (formatOf format .parts) → HasBit (chosenAspects format asked) (part .aspect) → In part (named (formatOf format) asked)
   unfolding named
   has-named h k = to-named asked (chosenAspects format asked) part (formatOf format .parts) agreed k h
-
--- ---- blocks
-
-sameBlocks : ℕ → Bool
-sameBlocks format = eqb (S.blockWidth format) (formatOf format .blockWidth) && eqb (S.blockHeight format) (formatOf format .blockHeight)
-
-all-blocks : everyBelow sameBlocks 21 ≡ true
-unfolding sameBlocks S.blockWidth S.blockHeight rowOf S.formats formatOf formats
-all-blocks = refl
-
-pub same-blocks : (format : ℕ) → Known format → (S.blockWidth format ≡ formatOf format .blockWidth) × (S.blockHeight format ≡ formatOf format .blockHeight)
-unfolding sameBlocks
-same-blocks format known =
-    let b = both-true _ _ (at-below sameBlocks 21 all-blocks format (known-below format known)) in
-    (eqb-true _ _ (b .0), eqb-true _ _ (b .1))
 
 -- ---- formats that differ only in srgb
 
@@ -153,8 +119,8 @@ pub record Alike (a b : ℕ) : Type 0 where
 pub alike : (a b : ℕ) → Known a → Known b → removeSrgb a ≡ removeSrgb b → Alike a b
 unfolding sameSrgb
 alike a b ka kb e =
-    let p = both-true _ _ (at-below sameSrgb 21 all-srgb a (known-below a ka)) in
-    let q = both-true _ _ (at-below sameSrgb 21 all-srgb b (known-below b kb)) in
+    let p = both-true _ _ (at-below sameSrgb 21 all-srgb a (below a ka)) in
+    let q = both-true _ _ (at-below sameSrgb 21 all-srgb b (below b kb)) in
     let p′ = both-true _ _ (p .1) in
     let q′ = both-true _ _ (q .1) in
     record {
@@ -194,7 +160,7 @@ hasPart : Aspect → ℕ → Bool
 hasPart a format = same (hasB (aspectsOf format) a) (anyPart a (formatOf format .parts))
 
 all-parts : (a : Aspect) → everyBelow (hasPart a) 21 ≡ true
-unfolding hasPart anyPart sameAspect same hasB formatOf formats aspectsOf rowOf S.formats
+unfolding hasPart anyPart sameAspect hasB formatOf formats aspectsOf rowOf S.formats
 all-parts Color = refl
 all-parts Depth = refl
 all-parts Stencil = refl
@@ -214,7 +180,7 @@ some-part a (p ∷ ps) e = go (either _ _ e) (some-part a ps)
 pub part-of : (format : ℕ) (a : Aspect) → Known format → HasBit (aspectsOf format) a → PartOf a (formatOf format .parts)
 unfolding hasPart
 part-of format a known h =
-    let e = same-true _ _ (at-below (hasPart a) 21 (all-parts a) format (known-below format known)) in
+    let e = same-is _ _ (at-below (hasPart a) 21 (all-parts a) format (below format known)) in
     some-part a (formatOf format .parts) (sym e ∙ bit-has _ a h)
 
 -- ---- where every aspect is chosen, one is named
@@ -232,7 +198,7 @@ all-some = refl
 
 pub named-all : (format : ℕ) (asked : TextureAspect) → Known format → chosenAspects format asked ≡ aspectsOf format → (p : Part) × In p (named (formatOf format) asked)
 unfolding someParts isSome named chosenAspects askedOf
-named-all format asked known e = go (formatOf format .parts) refl (at-below someParts 21 all-some format (known-below format known))
+named-all format asked known e = go (formatOf format .parts) refl (at-below someParts 21 all-some format (below format known))
   where
     go : (ps : List Part) → formatOf format .parts ≡ ps → isSome ps ≡ true → (p : Part) × In p (named (formatOf format) asked)
     go [] q s = no (sym s)
@@ -240,14 +206,3 @@ named-all format asked known e = go (formatOf format .parts) refl (at-below some
         let here : In p (formatOf format .parts) = rw q (first refl) in
         let all : In p (named (formatOf format) All) = rw q (first refl) in
         (p, has-named format asked known p here (rw e (named-has format All known p all .1)))
-
--- ---- the dimension
-
-pub same-dimension : (n : ℕ) → L.dimensionOf n ≡ dimensionOf n
-unfolding L.dimensionOf dimensionOf stop-if
-same-dimension n = go (eqb n 1) (eqb n 3)
-  where
-    go : (t u : Bool) → stop-if t D1 (stop-if u D3 D2) ≡ cond t D1 (cond u D3 D2)
-    go true u = refl
-    go false true = refl
-    go false false = refl

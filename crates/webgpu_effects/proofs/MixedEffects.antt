@@ -1,9 +1,8 @@
 -- Between 2D and 3D textures.
 -- Assumes nothing.
 use mathlib.Core.Path.{_≡_, refl, sym, ap, _∙_}
-use mathlib.Core.List.{List, [], _∷_}
 use mathlib.Core.Logic.{_⊎_, inl, inr}
-use Prim.Native.Nat.{ℕ, _+_, _*_, _/_, _%_, _≤_, _<_, min}
+use Prim.Native.Nat.{ℕ, _+_, _≤_, _<_, min}
 use native.Mathlib.Omega.{arith}
 use native.Mathlib.Nat.{add-zero}
 use Rattle.levels.specs.declared.TextureDimension.{TextureDimension}
@@ -11,15 +10,14 @@ use Rattle.levels.specs.declared.TextureDimension.the-variants.{D1, D2, D3}
 use Rattle.ranges.specs.Range as R
 use Rattle.selectors.specs.Selector as S
 use Rattle.texture_plans.specs.declared.TextureSide.{TextureSide}
-use Rattle.texture_plans.specs.declared.TextureCopy.{TextureCopy}
-use Rattle.webgpu.specs.Formats.{Aspect, Part, named, formatOf}
-use Rattle.texture_regions.specs.Regions.{Copy, depth}
-use Rattle.webgpu_effects.specs.Blocks.{TexelBlock, In}
-use Rattle.webgpu_effects.specs.Standard.{layerOf, sliceOf, ImageCopied, CopiesImage, Copies}
-use Rattle.webgpu_effects.specs.Effects.{Accepted, CarriedBy, dimension}
-use Rattle.webgpu_effects.specs.Mixed.{SlicesIntoLayers, onLayer, CopiesToLayer, LayersToSlices, LayersIntoSlices, Mixed, ImagesMissed, TheyPart}
+use Rattle.webgpu.specs.Formats.{Aspect}
+use Rattle.texture_regions.specs.Regions.{depth}
+use Rattle.webgpu_effects.specs.Blocks.{TexelBlock}
+use Rattle.webgpu_effects.specs.Standard.{layerOf, sliceOf, ImageCopied, CopiesImage}
+use Rattle.webgpu_effects.specs.Effects.{dimension}
+use Rattle.webgpu_effects.specs.Mixed.{SlicesIntoLayers, onLayer, LayersIntoSlices, ImagesMissed, TheyPart}
 use Rattle.webgpu_effects.proofs.Figures.{quotient-some, same-block, limit, Image, image-of}
-use Rattle.webgpu_effects.proofs.TextureEffects.{z, shifted, Done, done, carried, src-side, dst-side, image-alike, imageBlock, shifted-is, one, some-named}
+use Rattle.webgpu_effects.proofs.TextureEffects.{z, shifted, done, carried, src-side, dst-side, image-alike, imageBlock, shifted-is, one, some-named}
 
 -- ---- by the dimensions
 

@@ -1,6 +1,6 @@
 -- What an accepted range says of a texture's side, in the standard's words.
 -- Assumes nothing.
-use mathlib.Core.Path.{_≡_, refl, sym, ap, _∙_}
+use mathlib.Core.Path.{_≡_}
 use mathlib.Core.Bool.{true}
 use Prim.Native.Nat.{ℕ, _+_, _%_, _≤_, _<_}
 use native.Mathlib.Omega.{arith}
@@ -20,7 +20,8 @@ use Rattle.records.specs.Extents.{logicalExtent, physicalExtent}
 use Rattle.records.proofs.Bounded.{texture-laws}
 use Rattle.ranges.specs.Laws.{RangeLaws}
 use Rattle.webgpu.specs.Formats.{Known, formatOf, dimensionOf}
-use Rattle.webgpu_effects.proofs.Formats.{same-blocks, same-dimension}
+use Rattle.webgpu.proofs.Rows.{row-of}
+use Rattle.webgpu.proofs.Sizes.{dimension-is}
 use Rattle.webgpu_effects.proofs.Figures.{limit}
 
 pub record Side (t : Texture) (view : TexelCopyTextureInfo) (size : Extent3d) : Type 0 where
@@ -44,18 +45,18 @@ module _ (t : Texture) (view : TexelCopyTextureInfo) (size : Extent3d) (bounds :
   deep =
       let few = texture-laws t bounds .level-sized (view .«mip_level») .depth-few in
       let near = within-limit (L.dimensionOf (t .dimension)) (t .size) (view .«mip_level») few in
-      rw (← same-dimension (t .dimension)) (omega (arith, r .z-inside))
+      rw (← dimension-is (t .dimension)) (omega (arith, r .z-inside))
 
   pub side-of : Known (t .format) → Side t view size
   side-of known =
-      let b = same-blocks (t .format) known in
+      let b = row-of (t .format) known in
       let laws = every-format (t .format) in
       record {
-        bw-pos = rw (b .0) at (laws .width-some);
-        bh-pos = rw (b .1) at (laws .height-some);
-        x-whole = rw (b .0) at (r .x-whole);
-        y-whole = rw (b .1) at (r .y-whole);
-        w-whole = rw (b .0) at (r .width-whole);
-        h-whole = rw (b .1) at (r .height-whole);
+        bw-pos = rw (b .width) at (laws .width-some);
+        bh-pos = rw (b .height) at (laws .height-some);
+        x-whole = rw (b .width) at (r .x-whole);
+        y-whole = rw (b .height) at (r .y-whole);
+        w-whole = rw (b .width) at (r .width-whole);
+        h-whole = rw (b .height) at (r .height-whole);
         deep = deep;
       }

@@ -1,7 +1,6 @@
 -- What the regions of a copy between textures do.
 -- Assumes nothing.
 use mathlib.Core.Path.{_≡_, refl, sym, ap, _∙_}
-use mathlib.Core.Bool.{Bool, true, false}
 use mathlib.Core.List.{List}
 use mathlib.Core.Logic.{_⊎_, inl, inr}
 use Prim.Native.Nat.{ℕ, _+_, _*_, _/_, _%_, _≤_, _<_, min}
@@ -15,17 +14,17 @@ use Rattle.selectors.specs.declared.TextureCopyBase.{TextureCopyBase}
 use Rattle.selectors.specs.Selector as S
 use Rattle.texture_plans.specs.declared.TextureSide.{TextureSide}
 use Rattle.texture_plans.specs.declared.TextureCopy.{TextureCopy}
-use Rattle.webgpu.specs.Formats.{Aspect, Part, Format, Known, formatOf, named, dimensionOf}
+use Rattle.webgpu.specs.Formats.{Aspect, Part, Format, formatOf, named, dimensionOf}
 use Rattle.texture_regions.specs.Regions as T
 use Rattle.texture_regions.proofs.Accepted as A
 use Rattle.texture_regions.proofs.Same.{same-layers, same-depth, same-layer, same-z}
 use Rattle.texture_regions.proofs.Claims.{every-texture-copy}
 use Rattle.webgpu_effects.specs.Blocks.{TexelBlock, In}
-use Rattle.webgpu_effects.specs.Standard.{layerOf, sliceOf, blockAt, ImageCopied, Copies}
-use Rattle.webgpu_effects.specs.Regions.{blockFrom, Carries}
+use Rattle.webgpu_effects.specs.Standard.{layerOf, blockAt, ImageCopied}
+use Rattle.webgpu_effects.specs.Regions.{Carries}
 use Rattle.webgpu_effects.specs.Effects.{Accepted, CarriedBy, dimension, TextureEffects}
 use Rattle.webgpu_effects.proofs.Formats.{HasBit, named-has, has-named, part-of, named-all, Alike}
-use Rattle.webgpu_effects.proofs.Figures.{in-blocks, in-texels, some-blocks, same-block, no-zero, depth-some, limit, Image, image-of, layerFor, sliceFor, region-of}
+use Rattle.webgpu_effects.proofs.Figures.{in-blocks, in-texels, some-blocks, same-block, no-zero, depth-some, Image, image-of, layerFor, sliceFor, region-of}
 use Rattle.webgpu_effects.proofs.Sides.{Side, side-of}
 use Rattle.webgpu_effects.proofs.TextureParts as parts
 

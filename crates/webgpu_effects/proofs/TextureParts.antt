@@ -1,28 +1,28 @@
 -- The regions of a copy between formats of the standard: each is of a layer and a part, and the parts have the format's aspects.
 -- Assumes nothing.
 use mathlib.Core.Path.{_≡_, refl, sym, ap, _∙_}
-use mathlib.Core.Bool.{Bool, true, false, _&&_, _||_, not, cond}
+use mathlib.Core.Bool.{Bool, true, false, _&&_, cond}
 use mathlib.Core.List.{List, [], _∷_}
-use Prim.Native.Nat.{ℕ, zero, suc, _+_, _-_, _*_, _/_, _%_, _<_}
+use Prim.Native.Nat.{ℕ, zero, suc, _+_, _*_, _/_, _%_, _<_}
 use native.Mathlib.Omega.{arith}
 use native.Mathlib.Nat.{add-zero, zero-add, mul-zero, mod-lt, div-lt-iff-lt-mul}
 use lib.Dec.{eqb}
 use lib.ListN.{length, getD}
 use lib.Arith.{digits-lt, digits-div, digits-mod}
-use borrow.Author.Tests.{ne-eqb, eqb-true, eqb-false, not-false}
+use borrow.Author.Tests.{ne-eqb, eqb-true, not-false}
 use Rattle.checks.specs.Checks.{stop-if}
-use Rattle.checks.proofs.Rules.{neither}
 use Rattle.formats.specs.Sheet.{aspectsOf, isMultiPlanar, removeSrgb}
 use Rattle.formats.specs.Aspects.{aspectSpecificFormat}
 use Rattle.texture_plans.specs.declared.TextureCopy.{TextureCopy}
 use Rattle.texture_plans.specs.declared.TexturePlan.{TexturePlan}
 use Rattle.texture_copies.specs.Plan.{isThis, isPlaneSplit, formatsDiffer}
 use Rattle.webgpu.specs.Formats.{Aspect, Color, Depth, Stencil, Known}
+use Rattle.webgpu.proofs.Rows.{below}
 use Rattle.texture_regions.specs.Regions.{Copy, Part, part, bits, parts, dimension, depth, layersOf, isEmpty, isNv12, regionOf, regionAt, regionsFrom, regionsOf}
 use Rattle.texture_regions.proofs.Accepted as A
 use Rattle.texture_regions.proofs.Same.{same-bits}
 use Rattle.webgpu_effects.specs.Blocks.{In, first, later}
-use Rattle.webgpu_effects.proofs.Formats.{HasBit, nowhere, known-below, Alike, alike}
+use Rattle.webgpu_effects.proofs.Formats.{HasBit, nowhere, Alike, alike}
 
 -- ---- elements of a list by number
 
@@ -141,7 +141,7 @@ module _ (c : Copy) (p : TexturePlan) (k : A.Checks c p) (src-known : Known (c .
   no-split : isPlaneSplit (c .src) (c .dst) ≡ false
   unfolding isPlaneSplit aspectSpecificFormat isMultiPlanar stop-if isThis removeSrgb
   no-split =
-      let below = known-below (c .src .texture .format) src-known in
+      let known = below (c .src .texture .format) src-known in
       rw (ne-eqb (removeSrgb (c .src .texture .format)) 21 (λ e. omega (arith, e)))
 
   pub formats-alike : Alike (c .src .texture .format) (c .dst .texture .format)
@@ -163,7 +163,7 @@ module _ (c : Copy) (p : TexturePlan) (k : A.Checks c p) (src-known : Known (c .
   dst-bits = sym (same-bits (c .dst) (k .dst-bounds)) ∙ dst-chosen
 
   src-plain : isNv12 (c .src) ≡ false
-  src-plain = let below = known-below (c .src .texture .format) src-known in ne-eqb (c .src .texture .format) 21 (λ e. omega (arith, e))
+  src-plain = let known = below (c .src .texture .format) src-known in ne-eqb (c .src .texture .format) 21 (λ e. omega (arith, e))
 
   parts-are : parts c ≡ partsOf (eqb word 6) word
   unfolding parts

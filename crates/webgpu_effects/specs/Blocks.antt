@@ -1,6 +1,6 @@
 -- Texel blocks of a texture.
 use mathlib.Core.Path.{_≡_}
-use mathlib.Core.List.{List, [], _∷_}
+use mathlib.Core.List.{List, _∷_}
 use Prim.Native.Nat.{ℕ, _%_}
 use Rattle.webgpu.specs.Formats.{Aspect, Format}
 

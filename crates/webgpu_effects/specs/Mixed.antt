@@ -2,7 +2,7 @@
 use mathlib.Core.Path.{_≡_}
 use mathlib.Core.List.{List}
 use mathlib.Core.Logic.{_⊎_, _↔_}
-use Prim.Native.Nat.{ℕ, _≤_, _<_}
+use Prim.Native.Nat.{ℕ, _<_}
 use Rattle.levels.specs.declared.TextureDimension.the-variants.{D2, D3}
 use Rattle.formats.specs.declared.TextureAspect.the-variants.{All}
 use Rattle.texture_plans.specs.declared.TextureSide.{TextureSide}

@@ -6,8 +6,7 @@ use Rattle.levels.specs.declared.TextureDimension.{TextureDimension}
 use Rattle.levels.specs.declared.TextureDimension.the-variants.{D1, D2, D3}
 use Rattle.records.specs.declared.Texture.{Texture}
 use Rattle.records.specs.declared.TexelCopyTextureInfo.{TexelCopyTextureInfo}
-use Rattle.texture_plans.specs.declared.TextureSide.{TextureSide}
-use Rattle.webgpu.specs.Formats.{Aspect, Part, Format, formatOf, named, dimensionOf}
+use Rattle.webgpu.specs.Formats.{Aspect, Part, formatOf, named, dimensionOf}
 use Rattle.webgpu.specs.WebGpu.{orZero}
 use Rattle.ownership.specs.Copy as B
 use Rattle.texture_regions.specs.Regions as T

@@ -28,9 +28,9 @@ pub fn bench_points() -> Vec<Vec<u8>> {
 
 /// The sheets of docs/DIFFERENCES.md.
 pub fn difference_sheets() -> Vec<Vec<u8>> {
-    let refused = REFUSED
-        .iter()
-        .map(|(device, (textures, buffers, copies))| sheet_lines(device, textures, buffers, copies));
+    let refused = REFUSED.iter().map(|(device, (textures, buffers, copies))| {
+        sheet_lines(device, textures, buffers, copies)
+    });
     sheets(&DIFFERENCES).into_iter().chain(refused).collect()
 }
 
@@ -246,8 +246,16 @@ const DIFFERENCES: [Lines; 14] = [
 ];
 
 /// Copies that the planner refuses and the standard does not, each with its device.
-const REFUSED: [(&str, Lines); 4] = [
+const REFUSED: [(&str, Lines); 5] = [
     ("1 1", (&[], &["268435457 4", "4 8"], &["1 0 0 1 0 4"])),
+    (
+        "1 1",
+        (
+            &["0 2 8193 1 1 1 1 3"],
+            &["1 8"],
+            &["3 0 0 - - 0 0 0 0 0 0 1 1 1"],
+        ),
+    ),
     ("1 0", (&[], &["4 20", "4 40"], &["1 0 0 1 0 4"])),
     (
         "0 1",

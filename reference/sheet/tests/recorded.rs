@@ -157,12 +157,43 @@ fn refused_beyond_the_standard() {
         assert_eq!(listing(&text), lines(&[expected]), "{text}");
     };
     let buffers = "1 0 0 1 0 4";
-    refused("1 1", &[], &["268435457 4", "4 8"], buffers, "copy 0 refused 3 1 0 0 0 0");
-    refused("1 0", &[], &["4 20", "4 40"], buffers, "copy 0 refused 34 0 0 0 0 0");
-    let depth = "3 0 0 - - 0 0 0 0 0 0 1 1 1";
-    refused("0 1", &["16 2 1 1 1 1 1 3"], &["2 8"], depth, "copy 0 refused 34 0 0 0 0 0");
+    refused(
+        "1 1",
+        &[],
+        &["268435457 4", "4 8"],
+        buffers,
+        "copy 0 refused 3 1 0 0 0 0",
+    );
+    refused(
+        "1 0",
+        &[],
+        &["4 20", "4 40"],
+        buffers,
+        "copy 0 refused 34 0 0 0 0 0",
+    );
+    let texel = "3 0 0 - - 0 0 0 0 0 0 1 1 1";
+    refused(
+        "1 1",
+        &["0 2 8193 1 1 1 1 3"],
+        &["1 8"],
+        texel,
+        "copy 0 refused 2 1 0 0 0 0",
+    );
+    refused(
+        "0 1",
+        &["16 2 1 1 1 1 1 3"],
+        &["2 8"],
+        texel,
+        "copy 0 refused 34 0 0 0 0 0",
+    );
     let lacking = "3 0 0 - - 0 0 0 0 0 2 1 1 1";
-    refused("1 1", &["0 2 1 1 1 1 1 3"], &["1 8"], lacking, "copy 0 refused 12 0 0 0 0 0");
+    refused(
+        "1 1",
+        &["0 2 1 1 1 1 1 3"],
+        &["1 8"],
+        lacking,
+        "copy 0 refused 12 0 0 0 0 0",
+    );
 }
 
 /// Nothing is copied, yet the strides of the images ask for 256 bytes.

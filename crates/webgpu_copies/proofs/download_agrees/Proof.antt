@@ -1,6 +1,6 @@
 -- `download_agrees` meets its contract.
 -- Assumes nothing.
-use mathlib.Core.Bool.{true, false}
+use mathlib.Core.Bool.{true}
 use Rattle.webgpu.specs.WebGpu.{WithLayers, OneLayer}
 use Rattle.webgpu_copies.proofs.Textures.{copies-agree}
 use Rattle.webgpu_copies.proofs.download_agrees.Statement.{statement}
