@@ -3,3 +3,4 @@ pub mod Asks
 pub mod States
 pub mod Same
 pub mod Claims
+pub mod Ranges
