@@ -9,3 +9,4 @@ pub mod Asks
 pub mod Named
 pub mod Runs
 pub mod Claims
+pub mod Empty

@@ -4,3 +4,4 @@ pub mod Asking
 pub mod Copy
 pub mod Ranges
 pub mod Demand3
+pub mod Empty
