@@ -1,23 +1,38 @@
 -- The regions that asking an accepted copy's plan gives are those that document 01 gives for the copy: so they are what is written,
 -- printed and handed to other languages.
 use mathlib.Core.Path.{_≡_}
-use mathlib.Core.List.{map}
+use mathlib.Core.List.{[], map}
 use Prim.Native.Nat.{ℕ, _<_}
+use Rattle.records.specs.declared.Device.{Device}
+use Rattle.buffer_copies.specs.declared.BufferPlan.{BufferPlan}
+use Rattle.buffer_copies.specs.declared.BufferPlanned.the-variants as K
+use Rattle.buffer_copies.specs.BufferCopies.{bufferToBuffer}
 use Rattle.buffer_texture_plans.specs.declared.BufferTexturePlan.{BufferTexturePlan}
 use Rattle.buffer_texture.specs.declared.BufferTexturePlanned.the-variants as U
 use Rattle.texture_plans.specs.declared.TexturePlan.{TexturePlan}
 use Rattle.texture_copies.specs.declared.TexturePlanned.the-variants as X
 use Rattle.texture_copies.specs.Plan.{textureToTexture}
-use Rattle.plans.specs.declared.Plan.the-variants.{BufferTexture, Textures}
+use Rattle.plans.specs.declared.Plan.the-variants.{Buffers, BufferTexture, Textures}
+use Rattle.buffer_regions.specs.Regions as O
 use Rattle.ownership.specs.Copy as B
+use Rattle.ownership.specs.Empty.{NoSize}
 use Rattle.texture_regions.specs.Regions as T
-use Rattle.region_output.specs.Asking.{bufferTexture, textures, Gives}
+use Rattle.region_output.specs.Asking.{buffers, bufferTexture, textures, Gives}
 
--- with a buffer, of no size of 0
+abbrev pub BufferCopies : Type 0
+BufferCopies =
+    (device : Device) (i j : ℕ) (c : O.Copy) (p : BufferPlan)
+    → bufferToBuffer device i (c .src .buffer) (c .src .offset) j (c .dst .buffer) (c .dst .offset) (c .size) ≡ K.Plan p
+    → Gives (Buffers p) (map buffers (O.regionsOf c))
+
+-- with a buffer and a texture, of no size of 0, and of one
 abbrev pub BufferTextureCopies : Type 0
 BufferTextureCopies =
     (c : B.Copy) (p : BufferTexturePlan) → B.planned (c .reads) c ≡ U.Plan p → 0 < c .size .width → 0 < c .size .height → 0 < B.depth c
     → Gives (BufferTexture p) (map bufferTexture (B.regionsOf c))
+
+abbrev pub EmptyCopies : Type 0
+EmptyCopies = (c : B.Copy) (p : BufferTexturePlan) → B.planned (c .reads) c ≡ U.Plan p → NoSize c → Gives (BufferTexture p) []
 
 abbrev pub TextureCopies : Type 0
 TextureCopies =

@@ -1,7 +1,7 @@
 // What is written, printed and handed to other languages of a plan is the regions that asking it gives. No code runs here: each
 // function's contract is a claim, and the check asks for its proof.
 ghost use Rattle.region_output.specs.Asking.{EveryPlanEnds};
-ghost use Rattle.region_output.specs.Copies.{BufferTextureCopies, TextureCopies};
+ghost use Rattle.region_output.specs.Copies.{BufferCopies, BufferTextureCopies, EmptyCopies, TextureCopies};
 ghost use Rattle.region_output.specs.Written.{EveryPlanWrites};
 ghost use Rattle.region_output.specs.Printed.{EveryPlanPrints, EverySheetLists};
 ghost use Rattle.region_output.specs.Words.{EveryPlanSteps, EveryPlanWritesByWords};
@@ -31,6 +31,8 @@ pub fn regions_written_by_words()
 {}
 
 pub fn copies_reach_output()
+    ensures buffers { λ _. ⌜ BufferCopies ⌝ }
     ensures buffer_texture { λ _. ⌜ BufferTextureCopies ⌝ }
+    ensures empty { λ _. ⌜ EmptyCopies ⌝ }
     ensures textures { λ _. ⌜ TextureCopies ⌝ }
 {}
