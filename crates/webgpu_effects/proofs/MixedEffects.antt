@@ -15,7 +15,7 @@ use Rattle.texture_regions.specs.Regions.{depth}
 use Rattle.webgpu_effects.specs.Blocks.{TexelBlock}
 use Rattle.webgpu_effects.specs.Standard.{layerOf, sliceOf, ImageCopied, CopiesImage}
 use Rattle.webgpu_effects.specs.Effects.{dimension}
-use Rattle.webgpu_effects.specs.Mixed.{SlicesIntoLayers, onLayer, LayersIntoSlices, ImagesMissed, TheyPart}
+use Rattle.webgpu_effects.specs.Mixed.{SlicesIntoLayers, onLayer, LayersIntoSlices, ImagesMissed, TheyPart, Exhaustive}
 use Rattle.webgpu_effects.proofs.Figures.{quotient-some, same-block, limit, Image, image-of}
 use Rattle.webgpu_effects.proofs.TextureEffects.{z, shifted, done, carried, src-side, dst-side, image-alike, imageBlock, shifted-is, one, some-named}
 
@@ -148,3 +148,17 @@ they-part c rs k m pw ph pd =
       written = refl;
     } in
     (from, to, (1, pd, im), λ g. images-missed c rs k m from to 1 (omega arith) im g)
+
+-- ---- every case
+
+by-dimensions : (v w : TextureDimension) (zv zw d : ℕ) → zv + d ≤ limit v → zw + d ≤ limit w → ((v ≡ w) ⊎ (d ≤ 1)) ⊎ (((v ≡ D2) × (w ≡ D3)) ⊎ ((v ≡ D3) × (w ≡ D2)))
+by-dimensions D1 w zv zw d h l = inl (inr (omega arith))
+by-dimensions D2 D1 zv zw d h l = inl (inr (omega arith))
+by-dimensions D2 D2 zv zw d h l = inl (inl refl)
+by-dimensions D2 D3 zv zw d h l = inr (inl (refl, refl))
+by-dimensions D3 D1 zv zw d h l = inl (inr (omega arith))
+by-dimensions D3 D2 zv zw d h l = inr (inr (refl, refl))
+by-dimensions D3 D3 zv zw d h l = inl (inl refl)
+
+pub exhaustive : Exhaustive
+exhaustive c rs k = by-dimensions (dimension (c .src)) (dimension (c .dst)) (z (c .src)) (z (c .dst)) (depth c) (src-side c rs k .deep) (dst-side c rs k .deep)

@@ -55,8 +55,12 @@ CarriedBy c rs from to = (r : TextureCopy) × In r rs × Carries (formatOf (c .d
 abbrev pub dimension : TextureSide → TextureDimension
 dimension s = dimensionOf (s .texture .dimension)
 
--- of every accepted copy within one dimension, and of every other of at most one image, sizes of 0 included
+-- within one dimension, or of at most one image
+abbrev pub Unmixed : T.Copy → Type 0
+Unmixed c = (dimension (c .src) ≡ dimension (c .dst)) ⊎ (T.depth c ≤ 1)
+
+-- of every such accepted copy, sizes of 0 included
 abbrev pub TextureEffects : Type 0
 TextureEffects =
-    (c : T.Copy) (rs : List TextureCopy) → Accepted c rs → (dimension (c .src) ≡ dimension (c .dst)) ⊎ (T.depth c ≤ 1)
+    (c : T.Copy) (rs : List TextureCopy) → Accepted c rs → Unmixed c
     → (from to : TexelBlock) → CarriedBy c rs from to ↔ Copies c from to

@@ -10,7 +10,7 @@ use Rattle.texture_plans.specs.declared.TextureCopy.{TextureCopy}
 use Rattle.texture_regions.specs.Regions.{Copy, depth}
 use Rattle.webgpu_effects.specs.Blocks.{TexelBlock}
 use Rattle.webgpu_effects.specs.Standard.{blockAt, ImageCopied, CopiesImage, Copies}
-use Rattle.webgpu_effects.specs.Effects.{Accepted, CarriedBy, dimension}
+use Rattle.webgpu_effects.specs.Effects.{Accepted, CarriedBy, dimension, Unmixed}
 
 -- ---- slices into layers: image 0 as the standard has it, and nothing of the images above
 
@@ -56,6 +56,11 @@ abbrev pub TheyPart : Type 0
 TheyPart =
     (c : Copy) (rs : List TextureCopy) → Accepted c rs → Mixed c → 0 < c .size .width → 0 < c .size .height → 1 < depth c
     → (from : TexelBlock) × (to : TexelBlock) × Copies c from to × (CarriedBy c rs from to → ⊥)
+
+-- ---- there is no third case: a copy with a 1D texture has at most one image
+
+abbrev pub Exhaustive : Type 0
+Exhaustive = (c : Copy) (rs : List TextureCopy) → Accepted c rs → Unmixed c ⊎ Mixed c
 
 -- ---- and such copies are accepted: two images of one texel each, of r8unorm, by the dimension's number
 
