@@ -7,7 +7,8 @@ ghost use Prim.Native.Nat.{_<_};
 ghost use Rattle.measures.specs.Measure.{multiple, orElse};
 ghost use Rattle.formats.specs.Sheet.{depth24plus, depth24plus-stencil8, depth32float, depth32float-stencil8};
 ghost use Rattle.formats.specs.Aspects.{blockCopySize};
-ghost use Rattle.format_rules.specs.Rules.{isDepthOnly, srcFormat, dstFormat, offsetAlignment, isUnalignedRow, layoutChecked, textureBufferCopy};
+ghost use Rattle.refusals.specs.Order.{checked};
+ghost use Rattle.format_rules.specs.Rules.{isDepthOnly, srcFormatChecks, dstFormatChecks, offsetAlignment, isUnalignedRow, layoutChecks};
 use flags::FormatAspects;
 use formats::TextureAspect;
 use measures::OptionU32;
@@ -42,7 +43,7 @@ fn is_src_depth(format: u32, aspect: TextureAspect) -> bool
 }
 
 pub fn validate_texture_copy_src_format(format: u32, aspect: TextureAspect) -> Checked
-    ensures { λ r. ⌜ r ≡ srcFormat format aspect ⌝ }
+    ensures { λ r. ⌜ r ≡ checked (srcFormatChecks format aspect) ⌝ }
 {
     if format == formats::DEPTH24_PLUS {
         return Checked::Refused(TransferError::CopyFromForbiddenTextureFormat(format));
@@ -78,7 +79,7 @@ fn is_dst_depth(format: u32, aspect: TextureAspect) -> bool
 }
 
 pub fn validate_texture_copy_dst_format(format: u32, aspect: TextureAspect) -> Checked
-    ensures { λ r. ⌜ r ≡ dstFormat format aspect ⌝ }
+    ensures { λ r. ⌜ r ≡ checked (dstFormatChecks format aspect) ⌝ }
 {
     if is_forbidden_dst(format) {
         return Checked::Refused(TransferError::CopyToForbiddenTextureFormat(format));
@@ -137,17 +138,18 @@ fn is_unaligned_row(bytes_per_row: OptionU32, aligned: bool) -> bool
     checks::both(aligned, is_unaligned_value(bytes_per_row))
 }
 
-fn check_layout(
-    t: Texture,
+// `aspect` is the one asked for, `aspects` those chosen.
+pub fn validate_texture_buffer_copy(
+    aspect: TextureAspect,
     aspects: FormatAspects,
-    alignment: u64,
+    t: Texture,
     layout: TexelCopyBufferLayout,
     aligned: bool,
 ) -> Checked
-    requires { ⌜ 0 < alignment ⌝ }
-    ensures { λ r. ⌜ r ≡ layoutChecked t (aspects .0) alignment layout aligned ⌝ }
+    ensures { λ r. ⌜ r ≡ checked (layoutChecks aspect (aspects .0) t layout aligned) ⌝ }
 {
     let bytes_per_row = layout.bytes_per_row;
+    let alignment = offset_alignment(t.format, aspect);
     if t.sample_count != 1 {
         return Checked::Refused(TransferError::InvalidSampleCount {
             sample_count: t.sample_count,
@@ -163,23 +165,4 @@ fn check_layout(
         return Checked::Refused(TransferError::UnalignedBytesPerRow);
     }
     Checked::GoOn
-}
-
-// `aspect` is the one asked for, `aspects` those chosen.
-pub fn validate_texture_buffer_copy(
-    aspect: TextureAspect,
-    aspects: FormatAspects,
-    t: Texture,
-    layout: TexelCopyBufferLayout,
-    aligned: bool,
-) -> Checked
-    ensures { λ r. ⌜ r ≡ textureBufferCopy aspect (aspects .0) t layout aligned ⌝ }
-{
-    check_layout(
-        t,
-        aspects,
-        offset_alignment(t.format, aspect),
-        layout,
-        aligned,
-    )
 }

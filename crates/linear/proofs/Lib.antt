@@ -1,3 +1,4 @@
 pub mod Sums
 pub mod Rules
 pub mod Accepted
+pub mod Staged

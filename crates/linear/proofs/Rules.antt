@@ -14,7 +14,7 @@ use Rattle.linear.specs.declared.Whole.the-variants.{Fits, Over}
 use Rattle.linear.specs.declared.LinearData.{LinearData}
 use Rattle.linear.specs.declared.LinearChecked.{LinearChecked}
 use Rattle.linear.specs.declared.LinearChecked.the-variants.{GoOn, Refused}
-use Rattle.linear.specs.Linear.{fitting, below-2^64}
+use Rattle.linear.specs.Stages.{fitting, below-2^64}
 
 module _ (w : Whole) (n : ℕ) (k : ℕ → LinearChecked) (x : LinearChecked) where
   passes : (v : ℕ) (t : Bool) → w ≡ pick t (Fits n) Over → w ≡ Fits v → x ≡ k v → x ≡ pick t (k n) (Refused E.SizeOverflow)

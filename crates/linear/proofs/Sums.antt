@@ -17,7 +17,8 @@ use Rattle.formats.specs.Laws.{maxBlockBytes}
 use Rattle.formats.proofs.Rows.{every-format}
 use Rattle.linear.specs.declared.Whole.{Whole}
 use Rattle.linear.specs.declared.Whole.the-variants.{Fits, Over}
-use Rattle.linear.specs.Linear.{fitting, blockBytes}
+use Rattle.linear.specs.Linear.{blockBytes}
+use Rattle.linear.specs.Stages.{fitting}
 
 pub fits : {n : ℕ} → n < 2 ^ 64 → Fits n ≡ fitting n
 unfolding fitting

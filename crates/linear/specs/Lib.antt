@@ -1,2 +1,3 @@
 pub mod Linear
+pub mod Stages
 pub mod Laws

@@ -1,8 +1,8 @@
 // The bytes that a copy takes in a buffer: `validate_linear_texture_data` of command/transfer.rs.
 ghost use mathlib.Core.Path.{_≡_};
 ghost use Prim.Native.Nat.{_+_, _*_, _≤_};
-ghost use Rattle.linear.specs.Linear.{fitting, isBelow, lacks, stacked as stackedOf, severalRows, severalImages, isContiguous, dataOf, placed, measured, linearChecked, blockBytes, denseOf, linearData};
-ghost use Rattle.measures.specs.Measure.{orElse};
+ghost use Rattle.linear.specs.Linear.{isBelow, lacks, stacked as stackedOf, severalRows, severalImages, isContiguous, dataOf, rowStride, imageRows, blockBytes, denseOf, linearChecked};
+ghost use Rattle.linear.specs.Stages.{fitting, placed, measured, linearStaged};
 ghost use Rattle.formats.specs.Laws.{maxBlockBytes};
 ghost use Rattle.linear.specs.Laws.{EveryLinear};
 use formats::TextureAspect;
@@ -220,7 +220,7 @@ fn measure_given(
     side: CopySide,
     d: Dense,
 ) -> LinearChecked
-    ensures { λ r. ⌜ r ≡ measured layout «buffer_size» side d (orElse (layout .«bytes_per_row») (d .«row_bytes»)) (orElse (layout .«rows_per_image») (d .rows)) ⌝ }
+    ensures { λ r. ⌜ r ≡ measured layout «buffer_size» side d (rowStride layout d) (imageRows layout d) ⌝ }
 {
     let bytes_per_row = layout.bytes_per_row;
     let rows_per_image = layout.rows_per_image;
@@ -235,7 +235,7 @@ fn check_linear(
     side: CopySide,
     d: Dense,
 ) -> LinearChecked
-    ensures { λ r. ⌜ r ≡ linearChecked layout «buffer_size» side d ⌝ }
+    ensures { λ r. ⌜ r ≡ linearStaged layout «buffer_size» side d ⌝ }
 {
     let bytes_per_row = layout.bytes_per_row;
     let rows_per_image = layout.rows_per_image;
@@ -276,7 +276,7 @@ pub fn validate_linear_texture_data(
     buffer_side: CopySide,
     copy_size: Extent3d,
 ) -> LinearChecked
-    ensures { λ r. ⌜ r ≡ linearData layout format aspect «buffer_size» «buffer_side» «copy_size» ⌝ }
+    ensures { λ r. ⌜ r ≡ linearChecked layout format aspect «buffer_size» «buffer_side» «copy_size» ⌝ }
 {
     check_linear(
         layout,

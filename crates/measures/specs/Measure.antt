@@ -1,6 +1,6 @@
 -- Texels counted in blocks, of any block size of at least 1.
 use Prim.Native.Nat.{ℕ, _+_, _-_, _*_, _/_, _%_}
-use mathlib.Core.Bool.{Bool}
+use mathlib.Core.Bool.{Bool, _||_}
 use lib.Dec.{eqb}
 use Rattle.measures.specs.declared.Extent3d.{Extent3d}
 use Rattle.measures.specs.declared.OptionU32.{OptionU32}
@@ -31,3 +31,7 @@ physicalSize e blockWidth blockHeight =
       height = roundedUp (e .height) blockHeight;
       «depth_or_array_layers» = e .«depth_or_array_layers»;
     }
+
+-- nothing is copied
+unfoldable pub isEmpty : Extent3d → Bool
+isEmpty size = eqb (size .width) 0 || (eqb (size .height) 0 || eqb (size .«depth_or_array_layers») 0)

@@ -1,7 +1,7 @@
 // Texels and blocks, extents and origins, and the values that may be absent.
 ghost use mathlib.Core.Path.{_≡_};
 ghost use Prim.Native.Nat.{_+_, _<_, _≤_, _^_};
-ghost use Rattle.measures.specs.Measure.{orElse, multiple, blocksOf, roundedUp, physicalSize};
+ghost use Rattle.measures.specs.Measure.{orElse, multiple, blocksOf, roundedUp, physicalSize, isEmpty};
 ghost use Rattle.measures.specs.Laws.{EveryBlockSize};
 
 // Texels along one side.
@@ -103,6 +103,16 @@ pub fn physical_size(e: Extent3d, block_width: u32, block_height: u32) -> Extent
         height: height.0,
         depth_or_array_layers: e.depth_or_array_layers,
     }
+}
+
+// Whether nothing is copied.
+pub fn is_empty(size: Extent3d) -> bool
+    ensures { λ r. ⌜ r ≡ isEmpty size ⌝ }
+{
+    checks::either(
+        size.width == 0,
+        checks::either(size.height == 0, size.depth_or_array_layers == 0),
+    )
 }
 
 // Asks the check for the laws of blocks; nothing runs here.

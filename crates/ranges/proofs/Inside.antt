@@ -2,6 +2,7 @@
 -- Assumes nothing.
 use mathlib.Core.Path.{_≡_, refl, sym, ap, _∙_}
 use mathlib.Core.Bool.{Bool, true, false, not, _&&_}
+use mathlib.Core.List.{List, [], _∷_, flatten}
 use Prim.Native.Nat.{ℕ, _+_, _%_, _≤_}
 use native.Mathlib.Omega.{arith}
 use lib.Dec.{eqb, ltb}
@@ -12,12 +13,15 @@ use Rattle.measures.specs.declared.Origin3d.{Origin3d}
 use Rattle.measures.specs.Measure.{multiple}
 use Rattle.formats.specs.Sheet.{blockWidth, blockHeight}
 use Rattle.refusals.specs.declared.CopySide.{CopySide}
+use Rattle.refusals.specs.declared.TransferError.{TransferError}
+use Rattle.refusals.specs.Order.{first}
+use Rattle.refusals.proofs.Order.{first-of-all}
 use Rattle.records.specs.declared.Texture.{Texture}
 use Rattle.records.specs.declared.TexelCopyTextureInfo.{TexelCopyTextureInfo}
 use Rattle.records.specs.Extents.{physicalExtent}
 use Rattle.ranges.specs.declared.RangeChecked.{RangeChecked}
 use Rattle.ranges.specs.declared.RangeChecked.the-variants as R
-use Rattle.ranges.specs.Range.{requiresExactSize, rangeChecked, goesOn}
+use Rattle.ranges.specs.Range.{requiresExactSize, copyExtent, arrayLayerCount, rangeChecks, rangeChecked, goesOn}
 use Rattle.ranges.specs.Laws.{RangeLaws}
 use Rattle.ranges.specs.Inside.{runFits, sidesFit, blocksFit, extentFits, alignmentFits, inRange}
 use Rattle.ranges.proofs.Accepted.{every-range}
@@ -59,6 +63,9 @@ unfolding multiple
 no-rest n m h = eq-eqb (n % m) 0 h
 
 -- ---- the rule
+
+none-some : (e : TransferError) (es : List TransferError) → _≡_ {A = List TransferError} [] (e ∷ es) → ⊥
+none-some e es h = let z : _≡_ {A = ℕ} 0 1 = cc in omega arith
 
 module _ (view : TexelCopyTextureInfo) (t : Texture) (size : Extent3d) where
   abbrev extent : Extent3d
@@ -112,12 +119,14 @@ module _ (view : TexelCopyTextureInfo) (t : Texture) (size : Extent3d) where
       rw (l, x, y, z, no-rest _ _ (r .x-whole), no-rest _ _ (r .y-whole), no-rest _ _ (r .width-whole), no-rest _ _ (r .height-whole))
 
   module _ (side : CopySide) where
-    goes-where : (b : Bool) → inRange view t size ≡ b → (m : RangeChecked) → rangeChecked view t side size ≡ m → b ≡ goesOn m
-    unfolding goesOn
-    goes-where true h m e = sym (ap goesOn (sym e ∙ every-range view t side size .goes-on (laws-of h)))
-    goes-where false h (R.GoOn v n) e = sym h ∙ of-laws (every-range view t side size .went-on v n e .0)
-    goes-where false h (R.Refused why) e = refl
+    goes-where : (b : Bool) → inRange view t size ≡ b → (found : List TransferError) → flatten (rangeChecks view t side size) ≡ found → b ≡ goesOn (first found R.Refused (R.GoOn (copyExtent t size) (arrayLayerCount t size)))
+    unfolding goesOn first
+    goes-where true h [] e = refl
+    goes-where true h (why ∷ more) e = absurd (none-some why more (sym (every-range view t side size .passes (laws-of h)) ∙ e))
+    goes-where false h [] e = sym h ∙ of-laws (every-range view t side size .holds e)
+    goes-where false h (why ∷ more) e = refl
 
   -- an answer that is the test's, of whichever side
   pub as-goes-on : (x : Bool) → x ≡ inRange view t size → (side : CopySide) → x ≡ goesOn (rangeChecked view t side size)
-  as-goes-on x e side = e ∙ goes-where side (inRange view t size) refl (rangeChecked view t side size) refl
+  unfolding rangeChecked
+  as-goes-on x e side = e ∙ goes-where side (inRange view t size) refl (flatten (rangeChecks view t side size)) refl ∙ sym (ap goesOn (first-of-all RangeChecked (rangeChecks view t side size) R.Refused (R.GoOn (copyExtent t size) (arrayLayerCount t size))))

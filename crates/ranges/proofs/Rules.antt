@@ -2,7 +2,7 @@
 -- Assumes nothing.
 use mathlib.Core.Path.{_≡_}
 use Prim.Native.Nat.{ℕ}
-use Rattle.refusals.proofs.Answers.{answers}
+use Rattle.refusals.proofs.Order.{ordered}
 use Rattle.ranges.specs.declared.CopyExtent.{CopyExtent}
 use Rattle.ranges.specs.declared.RangeChecked.the-variants as R
 
@@ -10,4 +10,4 @@ use Rattle.ranges.specs.declared.RangeChecked.the-variants as R
 pub goes-on-alike : (v v′ : CopyExtent) (n n′ : ℕ) → v ≡ v′ → n ≡ n′ → R.GoOn v n ≡ R.GoOn v′ n′
 goes-on-alike v v′ n n′ e f = cc
 
-pub ruleset range = (answers, goes-on-alike)
+pub ruleset range = (ordered, goes-on-alike)

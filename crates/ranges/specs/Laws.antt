@@ -1,6 +1,7 @@
 -- What callers use of an accepted range.
 use mathlib.Core.Path.{_≡_}
 use mathlib.Core.Bool.{true}
+use mathlib.Core.List.{[], flatten}
 use Prim.Native.Nat.{ℕ, _+_, _%_, _≤_, _<_}
 use Rattle.measures.specs.declared.Extent3d.{Extent3d}
 use Rattle.formats.specs.Sheet.{blockWidth, blockHeight}
@@ -8,9 +9,7 @@ use Rattle.refusals.specs.declared.CopySide.{CopySide}
 use Rattle.records.specs.declared.Texture.{Texture}
 use Rattle.records.specs.declared.TexelCopyTextureInfo.{TexelCopyTextureInfo}
 use Rattle.records.specs.Extents.{physicalExtent}
-use Rattle.ranges.specs.declared.CopyExtent.{CopyExtent}
-use Rattle.ranges.specs.declared.RangeChecked.the-variants.{GoOn}
-use Rattle.ranges.specs.Range.{rangeChecked, requiresExactSize, copyExtent, arrayLayerCount}
+use Rattle.ranges.specs.Range.{requiresExactSize, rangeChecks}
 
 pub record RangeLaws (view : TexelCopyTextureInfo) (t : Texture) (size : Extent3d) : Type 0 where
   -- the level exists
@@ -28,12 +27,10 @@ pub record RangeLaws (view : TexelCopyTextureInfo) (t : Texture) (size : Extent3
   pub exact-width : requiresExactSize t ≡ true → size .width ≡ physicalExtent t (view .«mip_level») .width
   pub exact-height : requiresExactSize t ≡ true → size .height ≡ physicalExtent t (view .«mip_level») .height
 
--- the rule goes on exactly where they hold, with the copy's extent and layers
+-- the checks find nothing exactly where they hold
 pub record RangeRule (view : TexelCopyTextureInfo) (t : Texture) (side : CopySide) (size : Extent3d) : Type 0 where
-  pub goes-on : RangeLaws view t size → rangeChecked view t side size ≡ GoOn (copyExtent t size) (arrayLayerCount t size)
-  pub went-on :
-      (extent : CopyExtent) (layers : ℕ) → rangeChecked view t side size ≡ GoOn extent layers
-      → RangeLaws view t size × (copyExtent t size ≡ extent) × (arrayLayerCount t size ≡ layers)
+  pub passes : RangeLaws view t size → flatten (rangeChecks view t side size) ≡ []
+  pub holds : flatten (rangeChecks view t side size) ≡ [] → RangeLaws view t size
 
 abbrev pub EveryRange : Type 0
 EveryRange = (view : TexelCopyTextureInfo) (t : Texture) (side : CopySide) (size : Extent3d) → RangeRule view t side size

@@ -1,8 +1,8 @@
 -- The range of a copy within a texture.
 use Prim.Native.Nat.{ℕ, _+_, _-_, _%_, _^_}
 use mathlib.Core.Bool.{Bool, true, false, not, _&&_, _||_}
+use mathlib.Core.List.{[], _∷_, flatten}
 use lib.Dec.{eqb, leb, ltb}
-use Rattle.checks.specs.Checks.{stop-if, _$_}
 use Rattle.measures.specs.declared.Extent3d.{Extent3d}
 use Rattle.measures.specs.declared.Origin3d.{Origin3d}
 use Rattle.measures.specs.Measure.{multiple}
@@ -15,9 +15,7 @@ use Rattle.refusals.specs.declared.TextureErrorDimension.{TextureErrorDimension
 use Rattle.refusals.specs.declared.TextureErrorDimension.the-variants.{X, Y, Z}
 use Rattle.refusals.specs.declared.TransferError.{TransferError}
 use Rattle.refusals.specs.declared.TransferError.the-variants as E
-use Rattle.refusals.specs.declared.Checked.{Checked}
-use Rattle.refusals.specs.declared.Checked.the-variants as C
-use Rattle.refusals.specs.Answers.{after}
+use Rattle.refusals.specs.Order.{Checks, refuse-if, decided}
 use Rattle.records.specs.declared.Texture.{Texture}
 use Rattle.records.specs.declared.TexelCopyTextureInfo.{TexelCopyTextureInfo}
 use Rattle.records.specs.Extents.{physicalExtent}
@@ -45,29 +43,12 @@ partialTransfer of d start size limit =
 unfoldable pub textureOverrun : CopySide → TextureErrorDimension → ℕ → ℕ → ℕ → TransferError
 textureOverrun side d start size limit = E.TextureOverrun start (endOf start size) limit d side
 
--- 10; 9
-unfoldable pub dimensionChecked : Subject → TextureErrorDimension → ℕ → ℕ → ℕ → Bool → Checked
-dimensionChecked of d start size limit exact =
-    stop-if (isPartial exact start size limit) (C.Refused (partialTransfer of d start size limit)) $
-    stop-if (overruns start size limit) (C.Refused (textureOverrun (of .side) d start size limit)) $
-    C.GoOn
-
--- X, Y and Z in turn; on Z a part is always allowed
-unfoldable pub sidesChecked : Subject → Origin3d → Extent3d → Extent3d → Bool → Checked
-sidesChecked of o size extent exact =
-    after (dimensionChecked of X (o .x) (size .width) (extent .width) exact) C.Refused $
-    after (dimensionChecked of Y (o .y) (size .height) (extent .height) exact) C.Refused $
-    after (dimensionChecked of Z (o .z) (size .«depth_or_array_layers») (extent .«depth_or_array_layers») false) C.Refused $
-    C.GoOn
-
--- 18; 19; 16; 17
-unfoldable pub blocksChecked : Origin3d → Extent3d → ℕ → ℕ → Checked
-blocksChecked o size width height =
-    stop-if (not (multiple (o .x) width)) (C.Refused E.UnalignedCopyOriginX) $
-    stop-if (not (multiple (o .y) height)) (C.Refused E.UnalignedCopyOriginY) $
-    stop-if (not (multiple (size .width) width)) (C.Refused E.UnalignedCopyWidth) $
-    stop-if (not (multiple (size .height) height)) (C.Refused E.UnalignedCopyHeight) $
-    C.GoOn
+-- one side
+unfoldable pub dimensionChecks : Subject → TextureErrorDimension → ℕ → ℕ → ℕ → Bool → Checks
+dimensionChecks of d start size limit exact =
+    refuse-if (isPartial exact start size limit) (partialTransfer of d start size limit)  -- 10
+    ∷ refuse-if (overruns start size limit) (textureOverrun (of .side) d start size limit)  -- 9
+    ∷ []
 
 -- X and Y of a depth-stencil or multisampled texture are copied whole
 unfoldable pub requiresExactSize : Texture → Bool
@@ -98,21 +79,33 @@ layersOf D3 depth = 1
 unfoldable pub arrayLayerCount : Texture → Extent3d → ℕ
 arrayLayerCount t size = layersOf (dimensionOf (t .dimension)) (size .«depth_or_array_layers»)
 
-unfoldable pub extentChecked : TexelCopyTextureInfo → Texture → CopySide → Extent3d → Checked
-extentChecked view t side size =
-    sidesChecked (subjectOf t side) (view .origin) size (physicalExtent t (view .«mip_level»)) (requiresExactSize t)
+-- X, Y and Z in turn; on Z a part is always allowed
+unfoldable pub sideChecks : Subject → Origin3d → Extent3d → Extent3d → Bool → Checks
+sideChecks of o size extent exact =
+    flatten (dimensionChecks of X (o .x) (size .width) (extent .width) exact)
+    ∷ flatten (dimensionChecks of Y (o .y) (size .height) (extent .height) exact)
+    ∷ flatten (dimensionChecks of Z (o .z) (size .«depth_or_array_layers») (extent .«depth_or_array_layers») false)
+    ∷ []
 
-unfoldable pub alignmentChecked : TexelCopyTextureInfo → Texture → Extent3d → Checked
-alignmentChecked view t size = blocksChecked (view .origin) size (blockWidth (t .format)) (blockHeight (t .format))
+-- whole blocks
+unfoldable pub blockChecks : Origin3d → Extent3d → ℕ → ℕ → Checks
+blockChecks o size width height =
+    refuse-if (not (multiple (o .x) width)) E.UnalignedCopyOriginX  -- 18
+    ∷ refuse-if (not (multiple (o .y) height)) E.UnalignedCopyOriginY  -- 19
+    ∷ refuse-if (not (multiple (size .width) width)) E.UnalignedCopyWidth  -- 16
+    ∷ refuse-if (not (multiple (size .height) height)) E.UnalignedCopyHeight  -- 17
+    ∷ []
 
--- 13; X, Y, Z: 10 or 9; 18, 19, 16, 17
+unfoldable pub rangeChecks : TexelCopyTextureInfo → Texture → CopySide → Extent3d → Checks
+rangeChecks view t side size =
+    refuse-if (leb (t .«mip_level_count») (view .«mip_level»)) (E.InvalidTextureMipLevel (view .«mip_level») (t .«mip_level_count»))  -- 13
+    ∷ flatten (sideChecks (subjectOf t side) (view .origin) size (physicalExtent t (view .«mip_level»)) (requiresExactSize t))  -- X, Y, Z: 10, 9
+    ∷ flatten (blockChecks (view .origin) size (blockWidth (t .format)) (blockHeight (t .format)))  -- 18, 19, 16, 17
+    ∷ []
+
+-- an accepted range gives the size of a region and the layers
 unfoldable pub rangeChecked : TexelCopyTextureInfo → Texture → CopySide → Extent3d → RangeChecked
-rangeChecked view t side size =
-    stop-if (leb (t .«mip_level_count») (view .«mip_level»))
-    (R.Refused (E.InvalidTextureMipLevel (view .«mip_level») (t .«mip_level_count»))) $
-    after (extentChecked view t side size) R.Refused $
-    after (alignmentChecked view t size) R.Refused $
-    R.GoOn (copyExtent t size) (arrayLayerCount t size)
+rangeChecked view t side size = decided (rangeChecks view t side size) R.Refused (R.GoOn (copyExtent t size) (arrayLayerCount t size))
 
 -- the range is accepted
 unfoldable pub goesOn : RangeChecked → Bool

@@ -2,8 +2,11 @@
 ghost use mathlib.Core.Path.{_≡_};
 ghost use mathlib.Core.Bool.{true};
 ghost use Prim.Native.Nat.{_<_};
+ghost use Rattle.formats.specs.Sheet.{blockWidth, blockHeight};
+ghost use Rattle.refusals.specs.Order.{checked};
 ghost use Rattle.records.specs.Bounds.{textureInBounds};
-ghost use Rattle.ranges.specs.Range.{endOf, isPartial, overruns, partialTransfer, textureOverrun, dimensionChecked, sidesChecked, blocksChecked, requiresExactSize, subjectOf, depthOf, layersOf, copyExtent, arrayLayerCount, extentChecked, alignmentChecked, rangeChecked, goesOn};
+ghost use Rattle.records.specs.Extents.{physicalExtent};
+ghost use Rattle.ranges.specs.Range.{endOf, isPartial, overruns, partialTransfer, textureOverrun, dimensionChecks, sideChecks, blockChecks, requiresExactSize, subjectOf, depthOf, layersOf, copyExtent, arrayLayerCount, rangeChecked, goesOn};
 ghost use Rattle.ranges.specs.Inside.{runFits, sidesFit, blocksFit, extentFits, alignmentFits};
 ghost use Rattle.ranges.specs.Laws.{EveryRange};
 use levels::TextureDimension;
@@ -104,7 +107,7 @@ pub fn check_dimension(
     limit: u32,
     requires_exact_size: bool,
 ) -> Checked
-    ensures { λ r. ⌜ r ≡ dimensionChecked of dimension start size limit «requires_exact_size» ⌝ }
+    ensures { λ r. ⌜ r ≡ checked (dimensionChecks of dimension start size limit «requires_exact_size») ⌝ }
 {
     if is_partial(requires_exact_size, start, size, limit) {
         return Checked::Refused(partial_transfer(of, dimension, start, size, limit));
@@ -117,7 +120,7 @@ pub fn check_dimension(
 }
 
 fn check_sides(of: Subject, o: Origin3d, size: Extent3d, extent: Extent3d, exact: bool) -> Checked
-    ensures { λ r. ⌜ r ≡ sidesChecked of o size extent exact ⌝ }
+    ensures { λ r. ⌜ r ≡ checked (sideChecks of o size extent exact) ⌝ }
 {
     let x = check_dimension(
         of,
@@ -157,7 +160,7 @@ fn check_sides(of: Subject, o: Origin3d, size: Extent3d, extent: Extent3d, exact
 
 fn check_blocks(o: Origin3d, size: Extent3d, block_width: u32, block_height: u32) -> Checked
     requires { ⌜ (0 < «block_width») × (0 < «block_height») ⌝ }
-    ensures { λ r. ⌜ r ≡ blocksChecked o size «block_width» «block_height» ⌝ }
+    ensures { λ r. ⌜ r ≡ checked (blockChecks o size «block_width» «block_height») ⌝ }
 {
     if !measures::is_multiple_of(o.x, block_width) {
         return Checked::Refused(TransferError::UnalignedCopyOriginX);
@@ -233,7 +236,7 @@ pub fn array_layer_count(t: Texture, size: Extent3d) -> u32
 
 fn check_extent(view: TexelCopyTextureInfo, t: Texture, side: CopySide, size: Extent3d) -> Checked
     requires { ⌜ textureInBounds t ≡ true ⌝ }
-    ensures { λ r. ⌜ r ≡ extentChecked view t side size ⌝ }
+    ensures { λ r. ⌜ r ≡ checked (sideChecks (subjectOf t side) (view .origin) size (physicalExtent t (view .«mip_level»)) (requiresExactSize t)) ⌝ }
 {
     let origin = view.origin;
     let extent = records::physical_extent(t, view.mip_level);
@@ -241,7 +244,7 @@ fn check_extent(view: TexelCopyTextureInfo, t: Texture, side: CopySide, size: Ex
 }
 
 fn check_alignment(view: TexelCopyTextureInfo, t: Texture, size: Extent3d) -> Checked
-    ensures { λ r. ⌜ r ≡ alignmentChecked view t size ⌝ }
+    ensures { λ r. ⌜ r ≡ checked (blockChecks (view .origin) size (blockWidth (t .format)) (blockHeight (t .format))) ⌝ }
 {
     let origin = view.origin;
     let block = formats::block_dimensions(t.format);

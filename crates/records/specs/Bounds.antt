@@ -3,7 +3,7 @@ use Prim.Native.Nat.{ℕ, max}
 use mathlib.Core.Bool.{Bool, true, not, _&&_, _||_}
 use mathlib.Core.List.{[], _∷_}
 use lib.Dec.{eqb, leb}
-use Rattle.checks.specs.Checks.{every, stop-if, _$_}
+use Rattle.checks.specs.Checks.{every}
 use Rattle.measures.specs.declared.Extent3d.{Extent3d}
 use Rattle.measures.specs.Measure.{multiple}
 use Rattle.levels.specs.declared.TextureDimension.{TextureDimension}
@@ -11,9 +11,8 @@ use Rattle.levels.specs.declared.TextureDimension.the-variants.{D1, D2, D3}
 use Rattle.levels.specs.Level.{dimensionOf, maxMipLevels}
 use Rattle.formats.specs.Sheet.{isFormat, isMultiPlanar, blockWidth, blockHeight}
 use Rattle.refusals.specs.declared.CopySide.{CopySide}
-use Rattle.refusals.specs.declared.Checked.{Checked}
-use Rattle.refusals.specs.declared.Checked.the-variants.{GoOn, Refused}
 use Rattle.refusals.specs.declared.TransferError.the-variants.{InvalidBufferRecord, InvalidTextureRecord}
+use Rattle.refusals.specs.Order.{Checks, refuse-if}
 use Rattle.records.specs.declared.Buffer.{Buffer}
 use Rattle.records.specs.declared.Texture.{Texture}
 use Rattle.records.specs.Limits.{maxBufferSize, maxBufferUsage, maxTextureUsage, maxSide, maxSide3d, maxLayers}
@@ -94,14 +93,8 @@ formatSuits t = every (dimensionSuits (t .format) (t .dimension) ∷ sidesWhole 
 unfoldable pub textureInBounds : Texture → Bool
 textureInBounds t = every (fieldsInBounds t ∷ samplesInBounds t ∷ formatSuits t ∷ [])
 
--- 3, with the side
-unfoldable pub bufferChecked : Buffer → CopySide → Checked
-bufferChecked b side =
-    stop-if (not (bufferInBounds b)) (Refused (InvalidBufferRecord side)) $
-    GoOn
+unfoldable pub bufferChecks : Buffer → CopySide → Checks
+bufferChecks b side = refuse-if (not (bufferInBounds b)) (InvalidBufferRecord side) ∷ []  -- 3
 
--- 2, with the side
-unfoldable pub textureChecked : Texture → CopySide → Checked
-textureChecked t side =
-    stop-if (not (textureInBounds t)) (Refused (InvalidTextureRecord side)) $
-    GoOn
+unfoldable pub textureChecks : Texture → CopySide → Checks
+textureChecks t side = refuse-if (not (textureInBounds t)) (InvalidTextureRecord side) ∷ []  -- 2

@@ -3,7 +3,8 @@ ghost use mathlib.Core.Path.{_≡_};
 ghost use mathlib.Core.Bool.{true};
 ghost use Prim.Native.Nat.{max};
 ghost use Rattle.levels.specs.Level.{dimensionOf};
-ghost use Rattle.records.specs.Bounds.{within, bufferInBounds, sizeInBounds, mipSide, levelsInBounds, mayBeMultisampled, fourSamples, samplesInBounds, dimensionSuits, sidesWhole, evenSides, planesSuit, fieldsInBounds, formatSuits, textureInBounds, bufferChecked, textureChecked};
+ghost use Rattle.refusals.specs.Order.{checked};
+ghost use Rattle.records.specs.Bounds.{within, bufferInBounds, sizeInBounds, mipSide, levelsInBounds, mayBeMultisampled, fourSamples, samplesInBounds, dimensionSuits, sidesWhole, evenSides, planesSuit, fieldsInBounds, formatSuits, textureInBounds, bufferChecks, textureChecks};
 ghost use Rattle.records.specs.Extents.{logicalExtent, physicalExtent};
 ghost use Rattle.records.specs.Laws.{RecordLaws};
 use flags::BufferUsages;
@@ -252,7 +253,7 @@ pub fn texture_in_bounds(t: Texture) -> bool
 
 // 3 where a buffer's record is out of its bounds.
 pub fn check_buffer(b: Buffer, side: CopySide) -> Checked
-    ensures { λ r. ⌜ r ≡ bufferChecked b side ⌝ }
+    ensures { λ r. ⌜ r ≡ checked (bufferChecks b side) ⌝ }
 {
     if !buffer_in_bounds(b) {
         return Checked::Refused(TransferError::InvalidBufferRecord { side });
@@ -262,7 +263,7 @@ pub fn check_buffer(b: Buffer, side: CopySide) -> Checked
 
 // 2 where a texture's record is out of its bounds.
 pub fn check_texture(t: Texture, side: CopySide) -> Checked
-    ensures { λ r. ⌜ r ≡ textureChecked t side ⌝ }
+    ensures { λ r. ⌜ r ≡ checked (textureChecks t side) ⌝ }
 {
     if !texture_in_bounds(t) {
         return Checked::Refused(TransferError::InvalidTextureRecord { side });

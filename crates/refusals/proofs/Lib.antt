@@ -1,2 +1,2 @@
 pub mod Arms
-pub mod Answers
+pub mod Order

@@ -1,7 +1,6 @@
 // Why a copy is refused, and the six numbers that say so.
 ghost use mathlib.Core.Path.{_≡_};
 ghost use Rattle.refusals.specs.Numbers.{numbersOf, sideOf, dimensionOf, six};
-ghost use Rattle.refusals.specs.Answers.{whyOf};
 use formats::TextureAspect;
 
 pub enum CopySide {
@@ -140,16 +139,6 @@ pub struct Refusal {
 pub enum Checked {
     GoOn,
     Refused(TransferError),
-}
-
-// The refusal of an answer that is one, handed up.
-pub fn why(answer: Checked) -> TransferError
-    ensures { λ r. ⌜ r ≡ whyOf answer ⌝ }
-{
-    match answer {
-        Checked::GoOn => TransferError::SizeOverflow,
-        Checked::Refused(e) => e,
-    }
 }
 
 fn side_number(side: CopySide) -> u32

@@ -1,9 +1,9 @@
 -- The part of a texture that a copy selects, and copies within one texture.
-use Prim.Native.Nat.{ℕ, _+_}
+use Prim.Native.Nat.{ℕ, _+_, _%_, _^_}
 use mathlib.Core.Bool.{Bool}
 use mathlib.Core.List.{[], _∷_}
 use lib.Dec.{eqb, ltb}
-use Rattle.checks.specs.Checks.{every, stop-if, _$_}
+use Rattle.checks.specs.Checks.{every}
 use Rattle.measures.specs.declared.Extent3d.{Extent3d}
 use Rattle.measures.specs.declared.Origin3d.{Origin3d}
 use Rattle.measures.specs.declared.Range.{Range}
@@ -13,8 +13,7 @@ use Rattle.levels.specs.declared.TextureDimension.the-variants.{D1, D2, D3}
 use Rattle.levels.specs.Level.{dimensionOf}
 use Rattle.formats.specs.Aspects.{chosenAspects}
 use Rattle.refusals.specs.declared.TransferError.the-variants as E
-use Rattle.refusals.specs.declared.Checked.{Checked}
-use Rattle.refusals.specs.declared.Checked.the-variants as C
+use Rattle.refusals.specs.Order.{Checks, refuse-if, decided}
 use Rattle.records.specs.declared.Texture.{Texture}
 use Rattle.records.specs.declared.TexelCopyTextureInfo.{TexelCopyTextureInfo}
 use Rattle.selectors.specs.declared.TextureSelector.{TextureSelector}
@@ -37,16 +36,16 @@ zOf D2 z = 0
 zOf D3 z = z
 
 -- the layers that the copy selects
-abbrev pub layersOf : TextureDimension → ℕ → ℕ → Range
-layersOf D1 z depth = range 0 1
-layersOf D2 z depth = range z (z + depth)
-layersOf D3 z depth = range 0 1
+abbrev pub layerRange : TextureDimension → ℕ → ℕ → Range
+layerRange D1 z depth = range 0 1
+layerRange D2 z depth = range z (z + depth)
+layerRange D3 z depth = range 0 1
 
 unfoldable pub selectorOf : TexelCopyTextureInfo → Texture → Extent3d → TextureSelector
 selectorOf view t size =
     record {
       mips = range (view .«mip_level») (view .«mip_level» + 1);
-      layers = layersOf (dimensionOf (t .dimension)) (view .origin .z) (size .«depth_or_array_layers»);
+      layers = layerRange (dimensionOf (t .dimension)) (view .origin .z) (size .«depth_or_array_layers»);
     }
 
 -- where the first region starts
@@ -59,14 +58,25 @@ baseOf view t aspects =
       aspect = record { 0 = aspects };
     }
 
--- 12 where nothing is chosen
-unfoldable pub selectedOf : TexelCopyTextureInfo → Texture → Extent3d → ℕ → SelectorChecked
-selectedOf view t size aspects =
-    stop-if (eqb aspects 0) (Refused (E.InvalidTextureAspect (t .format) (view .aspect))) $
-    GoOn (selectorOf view t size) (baseOf view t aspects)
+-- one layer on. The sum wraps: a plan that no planner made may have any layer.
+unfoldable pub nextLayer : TextureCopyBase → TextureCopyBase
+nextLayer b =
+    record {
+      «mip_level» = b .«mip_level»;
+      «array_layer» = (b .«array_layer» + 1) % 2 ^ 32;
+      origin = b .origin;
+      aspect = b .aspect;
+    }
+
+-- something is chosen
+unfoldable pub selectorChecks : TexelCopyTextureInfo → Texture → Checks
+selectorChecks view t =
+    refuse-if (eqb (chosenAspects (t .format) (view .aspect)) 0) (E.InvalidTextureAspect (t .format) (view .aspect))  -- 12
+    ∷ []
 
 unfoldable pub selectorChecked : TexelCopyTextureInfo → Texture → Extent3d → SelectorChecked
-selectorChecked view t size = selectedOf view t size (chosenAspects (t .format) (view .aspect))
+selectorChecked view t size =
+    decided (selectorChecks view t) Refused (GoOn (selectorOf view t size) (baseOf view t (chosenAspects (t .format) (view .aspect))))
 
 -- chosen aspects meet, the level is the same, and each z is below the other z plus the layers
 unfoldable pub overlaps : TexelCopyTextureInfo → TexelCopyTextureInfo → ℕ → ℕ → Bool
@@ -78,9 +88,7 @@ overlaps src dst format layers =
     ∷ eqb (src .«mip_level») (dst .«mip_level»)
     ∷ [])
 
--- 11
-unfoldable pub sameTextureChecked : TexelCopyTextureInfo → TexelCopyTextureInfo → ℕ → ℕ → Checked
-sameTextureChecked src dst format layers =
-    stop-if (overlaps src dst format layers)
-    (C.Refused (E.InvalidCopyWithinSameTexture (src .aspect) (dst .aspect) (src .origin .z) (dst .origin .z) layers)) $
-    C.GoOn
+unfoldable pub sameTextureChecks : TexelCopyTextureInfo → TexelCopyTextureInfo → ℕ → ℕ → Checks
+sameTextureChecks src dst format layers =
+    refuse-if (overlaps src dst format layers) (E.InvalidCopyWithinSameTexture (src .aspect) (dst .aspect) (src .origin .z) (dst .origin .z) layers)  -- 11
+    ∷ []

@@ -2,7 +2,8 @@
 ghost use mathlib.Core.Path.{_≡_};
 ghost use Prim.Native.Nat.{_+_};
 ghost use lib.Dec.{ltb};
-ghost use Rattle.selectors.specs.Selector.{range as rangeOf, layerOf, zOf, layersOf, selectorOf, baseOf, selectedOf, selectorChecked, overlaps, sameTextureChecked};
+ghost use Rattle.refusals.specs.Order.{checked};
+ghost use Rattle.selectors.specs.Selector.{range as rangeOf, layerOf, zOf, layerRange, selectorOf, baseOf, nextLayer, selectorChecked, overlaps, sameTextureChecks};
 use flags::FormatAspects;
 use levels::TextureDimension;
 use measures::Extent3d;
@@ -63,8 +64,8 @@ fn run(start: u32, count: u32) -> Range
     }
 }
 
-fn layers_of(dimension: TextureDimension, z: u32, depth: u32) -> Range
-    ensures { λ r. ⌜ r ≡ layersOf dimension z depth ⌝ }
+fn layer_range(dimension: TextureDimension, z: u32, depth: u32) -> Range
+    ensures { λ r. ⌜ r ≡ layerRange dimension z depth ⌝ }
 {
     match dimension {
         TextureDimension::D1 => Range { start: 0, end: 1 },
@@ -79,7 +80,7 @@ fn selector_of(view: TexelCopyTextureInfo, t: Texture, size: Extent3d) -> Textur
     let origin = view.origin;
     let dimension = levels::texture_dimension(t.dimension);
     let mips = run(view.mip_level, 1);
-    let layers = layers_of(dimension, origin.z, size.depth_or_array_layers);
+    let layers = layer_range(dimension, origin.z, size.depth_or_array_layers);
     TextureSelector { mips, layers }
 }
 
@@ -101,22 +102,18 @@ fn base_of(view: TexelCopyTextureInfo, t: Texture, aspect: FormatAspects) -> Tex
     }
 }
 
-fn select(
-    view: TexelCopyTextureInfo,
-    t: Texture,
-    size: Extent3d,
-    aspects: FormatAspects,
-) -> SelectorChecked
-    ensures { λ r. ⌜ r ≡ selectedOf view t size (aspects .0) ⌝ }
+// The same place one layer on.
+pub fn next_layer(b: TextureCopyBase) -> TextureCopyBase
+    ensures { λ r. ⌜ r ≡ nextLayer b ⌝ }
 {
-    if aspects.0 == 0 {
-        let aspect = view.aspect;
-        return SelectorChecked::Refused(TransferError::InvalidTextureAspect {
-            format: t.format,
-            aspect,
-        });
+    let origin = b.origin;
+    let aspect = b.aspect;
+    TextureCopyBase {
+        mip_level: b.mip_level,
+        array_layer: std::num::wrapping_add_u32(b.array_layer, 1),
+        origin,
+        aspect,
     }
-    SelectorChecked::GoOn(selector_of(view, t, size), base_of(view, t, aspects))
 }
 
 pub fn extract_texture_selector(
@@ -127,12 +124,14 @@ pub fn extract_texture_selector(
     ensures { λ r. ⌜ r ≡ selectorChecked view t «copy_size» ⌝ }
 {
     let aspect = view.aspect;
-    select(
-        view,
-        t,
-        copy_size,
-        formats::chosen_aspects(t.format, aspect),
-    )
+    let aspects = formats::chosen_aspects(t.format, aspect);
+    if aspects.0 == 0 {
+        return SelectorChecked::Refused(TransferError::InvalidTextureAspect {
+            format: t.format,
+            aspect,
+        });
+    }
+    SelectorChecked::GoOn(selector_of(view, t, copy_size), base_of(view, t, aspects))
 }
 
 // Whether a z lies below another plus a count of layers.
@@ -172,7 +171,7 @@ pub fn validate_copy_within_same_texture(
     format: u32,
     array_layer_count: u32,
 ) -> Checked
-    ensures { λ r. ⌜ r ≡ sameTextureChecked src dst format «array_layer_count» ⌝ }
+    ensures { λ r. ⌜ r ≡ checked (sameTextureChecks src dst format «array_layer_count») ⌝ }
 {
     if is_overlap(src, dst, format, array_layer_count) {
         let src_aspects = src.aspect;

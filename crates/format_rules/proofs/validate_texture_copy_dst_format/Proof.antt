@@ -1,13 +1,14 @@
 -- `validate_texture_copy_dst_format` meets its contract.
 -- Assumes nothing.
 use borrow.Author.Needs.{needs}
-use Rattle.checks.proofs.Rules.{flag-lines}
-use Rattle.format_rules.specs.Rules.{dstFormat}
+use Rattle.refusals.specs.Order.{decided}
+use Rattle.refusals.proofs.Order.{ordered}
+use Rattle.format_rules.specs.Rules.{dstFormatChecks}
 use Rattle.format_rules.proofs.validate_texture_copy_dst_format.Statement.{statement}
 use Rattle.format_rules.proofs.validate_texture_copy_dst_format.Tie as tie
 
 pub validate-texture-copy-dst-format-spec : {M : Type 1} → statement M
-unfolding dstFormat
+unfolding dstFormatChecks decided
 validate-texture-copy-dst-format-spec =
     tie.close
-    (tie.spec (λ c κs. search needs) (λ c. search flag-lines depth 8) (λ c κs. search needs) (λ c. search flag-lines depth 8) (λ c. search flag-lines depth 8))
+    (tie.spec (λ c κs. search needs) (λ c. search ordered depth 8) (λ c κs. search needs) (λ c. search ordered depth 8) (λ c. search ordered depth 8))

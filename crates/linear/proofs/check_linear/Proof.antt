@@ -2,12 +2,12 @@
 -- Assumes nothing.
 use borrow.Author.Needs.{needs}
 use Rattle.linear.proofs.Rules.{sizes}
-use Rattle.linear.specs.Linear.{linearChecked}
+use Rattle.linear.specs.Stages.{linearStaged}
 use Rattle.linear.proofs.check_linear.Statement.{statement}
 use Rattle.linear.proofs.check_linear.Tie as tie
 
 pub check-linear-spec : {M : Type 1} → statement M
-unfolding linearChecked
+unfolding linearStaged
 check-linear-spec =
     tie.close
     (tie.spec (λ c κs. search needs) (λ c. search sizes depth 8) (λ c κs. search needs) (λ c. search sizes depth 8) (λ c κs. search needs) (λ c. search sizes depth 8))

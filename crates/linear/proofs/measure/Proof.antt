@@ -2,7 +2,7 @@
 -- Assumes nothing.
 use borrow.Author.Needs.{needs}
 use Rattle.linear.proofs.Rules.{sizes}
-use Rattle.linear.specs.Linear.{measured}
+use Rattle.linear.specs.Stages.{measured}
 use Rattle.linear.proofs.measure.Statement.{statement}
 use Rattle.linear.proofs.measure.Tie as tie
 

@@ -2,7 +2,7 @@
 -- Assumes nothing.
 use borrow.Author.Needs.{needs}
 use Rattle.linear.proofs.Rules.{sizes}
-use Rattle.linear.specs.Linear.{placed}
+use Rattle.linear.specs.Stages.{placed}
 use Rattle.linear.proofs.place.Statement.{statement}
 use Rattle.linear.proofs.place.Tie as tie
 

@@ -5,7 +5,8 @@ use Prim.Native.Nat.{ℕ, _+_, _-_, _*_, _^_, _≤_}
 use native.Mathlib.Omega.{arith}
 use borrow.Author.Needs.{needs}
 use borrow.Author.Tests.{eq-eqb, ne-eqb}
-use Rattle.linear.specs.Linear.{fitting, stacked}
+use Rattle.linear.specs.Linear.{stacked}
+use Rattle.linear.specs.Stages.{fitting}
 use Rattle.linear.proofs.Sums.{fits, over, fits-of, over-of}
 use Rattle.linear.proofs.stacked.Statement.{statement}
 use Rattle.linear.proofs.stacked.Tie as tie

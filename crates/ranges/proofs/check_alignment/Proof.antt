@@ -3,12 +3,10 @@
 use native.Mathlib.Omega.{arith}
 use borrow.Author.Needs.{needs}
 use Rattle.formats.proofs.Rows.{every-format}
-use Rattle.ranges.specs.Range.{alignmentChecked}
 use Rattle.ranges.proofs.check_alignment.Statement.{statement}
 use Rattle.ranges.proofs.check_alignment.Tie as tie
 
 pub check-alignment-spec : {M : Type 1} → statement M
-unfolding alignmentChecked
 check-alignment-spec =
     tie.close
     (tie.spec (λ c κs. search needs) (λ c κs. omega (arith, every-format (c .before .before .args .t .format))) (λ c. cc))

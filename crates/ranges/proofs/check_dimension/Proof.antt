@@ -1,13 +1,14 @@
 -- `check_dimension` meets its contract.
 -- Assumes nothing.
 use borrow.Author.Needs.{needs}
-use Rattle.refusals.proofs.Answers.{answers}
-use Rattle.ranges.specs.Range.{dimensionChecked}
+use Rattle.refusals.specs.Order.{decided}
+use Rattle.refusals.proofs.Order.{ordered}
+use Rattle.ranges.specs.Range.{dimensionChecks}
 use Rattle.ranges.proofs.check_dimension.Statement.{statement}
 use Rattle.ranges.proofs.check_dimension.Tie as tie
 
 pub check-dimension-spec : {M : Type 1} → statement M
-unfolding dimensionChecked
+unfolding dimensionChecks decided
 check-dimension-spec =
     tie.close
-    (tie.spec (λ c κs. search needs) (λ c κs. search needs) (λ c. search answers depth 8) (λ c κs. search needs) (λ c κs. search needs) (λ c. search answers depth 8) (λ c. search answers depth 8))
+    (tie.spec (λ c κs. search needs) (λ c κs. search needs) (λ c. search ordered depth 8) (λ c κs. search needs) (λ c κs. search needs) (λ c. search ordered depth 8) (λ c. search ordered depth 8))

@@ -1,12 +1,10 @@
 -- `check_extent` meets its contract.
 -- Assumes nothing.
 use borrow.Author.Needs.{needs}
-use Rattle.ranges.specs.Range.{extentChecked}
 use Rattle.ranges.proofs.check_extent.Statement.{statement}
 use Rattle.ranges.proofs.check_extent.Tie as tie
 
 pub check-extent-spec : {M : Type 1} → statement M
-unfolding extentChecked
 check-extent-spec =
     tie.close
     (tie.spec (λ c κs. search needs) (λ c κs. search needs) (λ c κs. search needs) (λ c κs. search needs) (λ c. cc))

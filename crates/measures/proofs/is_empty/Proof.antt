@@ -1,9 +1,9 @@
 -- `is_empty` meets its contract.
 -- Assumes nothing.
 use borrow.Author.Needs.{needs}
-use Rattle.copies.specs.Copies.{isEmpty}
-use Rattle.copies.proofs.is_empty.Statement.{statement}
-use Rattle.copies.proofs.is_empty.Tie as tie
+use Rattle.measures.specs.Measure.{isEmpty}
+use Rattle.measures.proofs.is_empty.Statement.{statement}
+use Rattle.measures.proofs.is_empty.Tie as tie
 
 pub is-empty-spec : {M : Type 1} → statement M
 unfolding isEmpty
