@@ -11,6 +11,7 @@ ghost use Rattle.selectors.specs.Selector.{selectorChecked, sameTextureChecks};
 ghost use Rattle.records.specs.Bounds.{textureInBounds, textureChecks};
 ghost use Rattle.texture_copies.specs.Copy.{isThis, isPlaneSplit, formatsDiffer, planeWidth, planeHeight};
 ghost use Rattle.texture_copies.specs.Plan.{planeChecks, textureToTexture};
+ghost use Rattle.texture_copies.specs.Laws.{EveryCopyLaw};
 ghost use Rattle.texture_copies.specs.Stages.{planeSides, withinPlane, withinOne, usable, selectedCopy, withinCopy, rangedCopy, matchedCopy};
 use flags::TextureUsages;
 use formats::TextureAspect;
@@ -392,3 +393,8 @@ pub fn copy_texture_to_texture(
     };
     match_split(src_index == dst_index, src, dst, copy_size)
 }
+
+// Asks the check for the law of accepted copies; nothing runs here.
+pub fn copy_laws()
+    ensures { λ _. ⌜ EveryCopyLaw ⌝ }
+{}
