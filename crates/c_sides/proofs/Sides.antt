@@ -11,19 +11,20 @@ use Rattle.measures.specs.declared.Extent3d.{Extent3d}
 use Rattle.refusals.specs.declared.CopySide.{CopySide}
 use Rattle.refusals.specs.declared.TransferError.{TransferError}
 use Rattle.refusals.specs.declared.TransferError.the-variants.{InvalidTextureRecord}
-use Rattle.refusals.specs.Answers.{after}
+use Rattle.refusals.specs.Order.{refuse-if, first, decided, checked}
 use Rattle.records.specs.declared.Texture.{Texture}
 use Rattle.records.specs.declared.TexelCopyTextureInfo.{TexelCopyTextureInfo}
-use Rattle.records.specs.Bounds.{textureInBounds, textureChecked}
+use Rattle.records.specs.Bounds.{textureInBounds, textureChecks}
 use Rattle.ranges.specs.declared.CopyExtent.{CopyExtent}
 use Rattle.ranges.specs.declared.RangeChecked.{RangeChecked}
 use Rattle.ranges.specs.declared.RangeChecked.the-variants as R
 use Rattle.ranges.specs.Range.{rangeChecked, goesOn, copyExtent, arrayLayerCount}
-use Rattle.ranges.proofs.Accepted.{every-range}
-use Rattle.copies.specs.Copies.{after-range, rangeWhy}
+use Rattle.ranges.proofs.Accepted as ranges
+use Rattle.rule_answers.specs.Answers.{HandsUp}
+use Rattle.rule_answers.specs.Stages.{after, after-range}
 use Rattle.c_records.specs.CRecords.{textureFrom, viewFrom, sizeFrom}
 use Rattle.c_sides.specs.declared.SideState.{SideState}
-use Rattle.c_sides.specs.Sides.{stateOf, sideState, rangeRefusal, hasBadRecord, isOutOfRange}
+use Rattle.c_sides.specs.Sides.{stateOf, sideState, RangeRefusal, hasBadRecord, isOutOfRange}
 
 not-both-ways : {A : Type 0} → true ≡ false → A
 not-both-ways e = let z : _≡_ {A = ℕ} 0 1 = cc in absurd (omega arith)
@@ -35,13 +36,14 @@ accepted-with :
     → rangeChecked view t side size ≡ m → goesOn m ≡ true → rangeChecked view t side size ≡ R.GoOn (copyExtent t size) (arrayLayerCount t size)
 unfolding goesOn
 accepted-with view t side size (R.GoOn v n) e h =
-    every-range view t side size .goes-on (every-range view t side size .went-on v n e .0)
+    ranges.range-goes view t side size (ranges.range-went view t side size v n e .0)
 accepted-with view t side size (R.Refused why) e h = not-both-ways (sym h)
 
-refused-with : (A : Type 0) (refused : TransferError → A) (k : CopyExtent → ℕ → A) (m : RangeChecked) → goesOn m ≡ false → after-range m refused k ≡ refused (rangeWhy m)
-unfolding after-range rangeWhy goesOn
-refused-with A refused k (R.GoOn v n) h = not-both-ways h
-refused-with A refused k (R.Refused e) h = refl
+refused-with :
+    (A : Type 0) (refused : TransferError → A) (k : CopyExtent → ℕ → A) (m : RangeChecked) (why : TransferError) → HandsUp R.Refused m why → goesOn m ≡ false → after-range m refused k ≡ refused why
+unfolding after-range goesOn
+refused-with A refused k (R.GoOn v n) why u h = not-both-ways h
+refused-with A refused k (R.Refused e) why u h = ap refused (sym (u .same e refl))
 
 -- ---- a state, and the tests behind it
 
@@ -78,18 +80,17 @@ module _ (t v : List ℕ) (side : CopySide) (s : List ℕ) where
 
     -- how an order of checks goes on
     module _ (A : Type 0) (refused : TransferError → A) (x : A) where
-      pub record-stops : (rest : A) → r ≡ hasBadRecord state → r ≡ true → x ≡ refused (InvalidTextureRecord side) → x ≡ after (textureChecked (textureFrom t) side) refused rest
-      unfolding textureChecked after stop-if
+      pub record-stops : (rest : A) → r ≡ hasBadRecord state → r ≡ true → x ≡ refused (InvalidTextureRecord side) → x ≡ after (checked (textureChecks (textureFrom t) side)) refused rest
+      unfolding textureChecks after decided first refuse-if
       record-stops rest p q h = rw (sym (bad-is p) ∙ q) h
 
-      pub record-passes : (rest : A) → r ≡ hasBadRecord state → r ≡ false → x ≡ rest → x ≡ after (textureChecked (textureFrom t) side) refused rest
-      unfolding textureChecked after stop-if
+      pub record-passes : (rest : A) → r ≡ hasBadRecord state → r ≡ false → x ≡ rest → x ≡ after (checked (textureChecks (textureFrom t) side)) refused rest
+      unfolding textureChecks after decided first refuse-if
       record-passes rest p q h = rw (sym (bad-is p) ∙ q) h
 
       module _ (k : CopyExtent → ℕ → A) where
-        pub range-stops : (d : TransferError) → bounded ≡ true → r ≡ isOutOfRange state → r ≡ true → d ≡ rangeRefusal t v side s → x ≡ refused d → x ≡ after-range range refused k
-        unfolding rangeRefusal
-        range-stops d b p q e h = h ∙ ap refused e ∙ sym (refused-with A refused k range (not-true (goesOn range) (sym (out-is b p) ∙ q)))
+        pub range-stops : (d : TransferError) → bounded ≡ true → r ≡ isOutOfRange state → r ≡ true → RangeRefusal t v side s d → x ≡ refused d → x ≡ after-range range refused k
+        range-stops d b p q why h = h ∙ sym (refused-with A refused k range d why (not-true (goesOn range) (sym (out-is b p) ∙ q)))
 
         pub range-passes : bounded ≡ true → r ≡ isOutOfRange state → r ≡ false → x ≡ k (copyExtent (textureFrom t) (sizeFrom s)) (arrayLayerCount (textureFrom t) (sizeFrom s)) → x ≡ after-range range refused k
         unfolding after-range

@@ -9,8 +9,9 @@ use Rattle.refusals.specs.declared.TransferError.{TransferError}
 use Rattle.records.specs.declared.Texture.{Texture}
 use Rattle.records.specs.declared.TexelCopyTextureInfo.{TexelCopyTextureInfo}
 use Rattle.records.specs.Bounds.{textureInBounds}
+use Rattle.ranges.specs.declared.RangeChecked.the-variants.{Refused}
 use Rattle.ranges.specs.Range.{rangeChecked, goesOn}
-use Rattle.copies.specs.Copies.{rangeWhy}
+use Rattle.rule_answers.specs.Answers.{HandsUp}
 use Rattle.c_records.specs.CRecords.{textureFrom, viewFrom, sizeFrom}
 use Rattle.c_sides.specs.declared.SideState.{SideState}
 use Rattle.c_sides.specs.declared.SideState.the-variants.{BadRecord, OutOfRange, Fits}
@@ -25,8 +26,9 @@ stateOf t view side size =
 unfoldable pub sideState : List ℕ → List ℕ → CopySide → List ℕ → SideState
 sideState t v side s = stateOf (textureFrom t) (viewFrom v) side (sizeFrom s)
 
-unfoldable pub rangeRefusal : List ℕ → List ℕ → CopySide → List ℕ → TransferError
-rangeRefusal t v side s = rangeWhy (rangeChecked (viewFrom v) (textureFrom t) side (sizeFrom s))
+-- where the range is refused, it is for this
+abbrev pub RangeRefusal : List ℕ → List ℕ → CopySide → List ℕ → TransferError → Type 0
+RangeRefusal t v side s why = HandsUp Refused (rangeChecked (viewFrom v) (textureFrom t) side (sizeFrom s)) why
 
 unfoldable pub hasBadRecord : SideState → Bool
 hasBadRecord BadRecord = true

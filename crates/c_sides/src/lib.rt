@@ -5,7 +5,7 @@ ghost use mathlib.Core.Bool.{true};
 ghost use Rattle.records.specs.Bounds.{textureInBounds};
 ghost use Rattle.ranges.specs.Range.{rangeChecked, goesOn};
 ghost use Rattle.c_records.specs.CRecords.{textureFrom, viewFrom, sizeFrom};
-ghost use Rattle.c_sides.specs.Sides.{hasBadRecord, isOutOfRange, stateOf, sideState, rangeRefusal};
+ghost use Rattle.c_sides.specs.Sides.{hasBadRecord, isOutOfRange, stateOf, sideState, RangeRefusal};
 use records::Texture;
 use refusals::CopySide;
 use refusals::TransferError;
@@ -65,10 +65,10 @@ pub fn side_state(t: &[u32; 8], v: &[u32; 5], s: &[u32; 3]) -> SideState
 // Why a side that is out of range is refused.
 pub fn range_refusal(t: &[u32; 8], v: &[u32; 5], side: CopySide, s: &[u32; 3]) -> TransferError
     requires { ⌜ textureInBounds (textureFrom (now t)) ≡ true ⌝ }
-    ensures { λ r. ⌜ r ≡ rangeRefusal (now (t .entry)) (now (v .entry)) side (now (s .entry)) ⌝ }
+    ensures { λ r. ⌜ RangeRefusal (now (t .entry)) (now (v .entry)) side (now (s .entry)) r ⌝ }
 {
     let texture = c_records::texture_from(t);
-    copies::range_why(ranges::validate_texture_copy_range(
+    rule_answers::range_why(ranges::validate_texture_copy_range(
         c_records::view_from(v),
         texture,
         side,
