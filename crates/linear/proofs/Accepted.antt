@@ -9,14 +9,21 @@ use native.Mathlib.Nat.{mul-le-mul-right}
 use lib.Dec.{ltb}
 use borrow.Author.Tests.{lt-ltb, le-ltb, ltb-true, ltb-false, not-false}
 use Rattle.checks.proofs.Rules.{not-no}
+use Rattle.measures.specs.declared.Extent3d.{Extent3d}
 use Rattle.measures.specs.declared.OptionU32.{OptionU32}
 use Rattle.measures.specs.declared.OptionU32.the-variants.{Given, Absent}
 use Rattle.measures.specs.Measure.{orElse}
+use Rattle.formats.specs.declared.TextureAspect.{TextureAspect}
 use Rattle.refusals.specs.declared.CopySide.{CopySide}
-use Rattle.refusals.proofs.Order.{none-in, flat-empty, test-fails, test-off}
+use Rattle.refusals.specs.declared.TransferError.{TransferError}
+use Rattle.refusals.specs.Order.{first}
+use Rattle.refusals.proofs.Order.{first-of-all, clear, none-in, flat-empty, test-fails, test-off}
 use Rattle.records.specs.declared.TexelCopyBufferLayout.{TexelCopyBufferLayout}
 use Rattle.linear.specs.declared.Dense.{Dense}
-use Rattle.linear.specs.Linear.{rowStride, imageStride, imageBytes, totalBytes, isBelow, linearChecks}
+use Rattle.linear.specs.declared.LinearData.{LinearData}
+use Rattle.linear.specs.declared.LinearChecked.{LinearChecked}
+use Rattle.linear.specs.declared.LinearChecked.the-variants as L
+use Rattle.linear.specs.Linear.{rowStride, imageStride, imageBytes, totalBytes, denseOf, linearData, isBelow, linearChecks, linearChecked}
 use Rattle.linear.specs.Laws.{LinearLaws, EveryLinear}
 
 -- a given value is not below the dense one, which stands for an absent one
@@ -89,3 +96,28 @@ every-linear =
       rule = λ layout bufferSize side d. record { passes = linear-passes layout bufferSize side d; holds = linear-holds layout bufferSize side d };
       rows-within = rows-within;
     }
+
+-- ---- the same of the rule's answer
+
+no-answer : {e : TransferError} {m : LinearData} → L.Refused e ≡ L.GoOn m → ⊥
+no-answer h = let z : _≡_ {A = ℕ} 0 1 = cc in omega arith
+
+module _ (layout : TexelCopyBufferLayout) (format : ℕ) (aspect : TextureAspect) (bufferSize : ℕ) (side : CopySide) (size : Extent3d) where
+  abbrev d : Dense
+  d = denseOf format aspect size
+
+  first-found : linearChecked layout format aspect bufferSize side size ≡ first (flatten (linearChecks layout bufferSize side d)) L.Refused (L.GoOn (linearData layout d))
+  unfolding linearChecked
+  first-found = first-of-all LinearChecked (linearChecks layout bufferSize side d) L.Refused (L.GoOn (linearData layout d))
+
+  pub linear-goes : bufferSize < 2 ^ 64 → LinearLaws layout bufferSize d → linearChecked layout format aspect bufferSize side size ≡ L.GoOn (linearData layout d)
+  unfolding first
+  linear-goes small l = first-found ∙ rw (linear-passes layout bufferSize side d small l)
+
+  pub linear-went : (m : LinearData) → linearChecked layout format aspect bufferSize side size ≡ L.GoOn m → LinearLaws layout bufferSize d × (linearData layout d ≡ m)
+  linear-went m h =
+      let c = clear LinearChecked L.Refused (L.GoOn (linearData layout d)) (flatten (linearChecks layout bufferSize side d)) (L.GoOn m) (sym h ∙ first-found) (λ e. no-answer) in
+      (linear-holds layout bufferSize side d (c .0), alike (c .1))
+    where
+      alike : L.GoOn m ≡ L.GoOn (linearData layout d) → linearData layout d ≡ m
+      alike e = cc

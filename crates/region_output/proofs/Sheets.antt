@@ -101,8 +101,8 @@ module _ (s ts bs : List ℕ) (device : Device) (l : Line) where
 
   named-copy : (up : Bool) → PlannedFit (plannedOf (eitherWay up (copyRequest device l (bufferAt s bs (wordOf l 1)) (textureAt s ts (wordOf l 5)))))
   unfolding plannedOf eitherWay copyRequest layoutOf
-  named-copy true = of-copy _ _ _ (upload-fits _ _ _ _ _ (figures l 6 11) (option-small l 3) (option-small l 4) device)
-  named-copy false = of-copy _ _ _ (download-fits _ _ _ _ _ (figures l 6 11) (option-small l 3) (option-small l 4) device)
+  named-copy true = of-copy _ _ _ (upload-fits device _ _ _ _ _ (figures l 6 11) (option-small l 3) (option-small l 4))
+  named-copy false = of-copy _ _ _ (download-fits device _ _ _ _ _ (figures l 6 11) (option-small l 3) (option-small l 4))
 
   copy-line : PlannedFit (copyPlanned s ts bs device l)
   unfolding copyPlanned namedCopy

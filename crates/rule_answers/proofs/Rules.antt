@@ -26,6 +26,7 @@ use Rattle.selectors.specs.declared.TextureSelector.{TextureSelector}
 use Rattle.selectors.specs.declared.TextureCopyBase.{TextureCopyBase}
 use Rattle.selectors.specs.declared.SelectorChecked.{SelectorChecked}
 use Rattle.selectors.specs.declared.SelectorChecked.the-variants as S
+use Rattle.rule_answers.specs.Answers.{HandsUp}
 use Rattle.rule_answers.specs.Stages.{after, after-range, after-selector, after-linear}
 
 -- ---- an answer goes on, or its refusal is handed up
@@ -36,36 +37,36 @@ module _ (A : Type 0) (refused : TransferError → A) (x : A) where
     unfolding after
     after-goes p q h = rw (sym p ∙ q) h
 
-    pub after-stops : (d e : TransferError) → r ≡ m → r ≡ C.Refused e → ((a : TransferError) → r ≡ C.Refused a → d ≡ a) → x ≡ refused d → x ≡ after m refused rest
+    pub after-stops : (d e : TransferError) → x ≡ refused d → r ≡ m → r ≡ C.Refused e → HandsUp C.Refused r d → x ≡ after m refused rest
     unfolding after
-    after-stops d e p q why h = rw (sym p ∙ q) (h ∙ ap refused (why e q))
+    after-stops d e h p q why = rw (sym p ∙ q) (h ∙ ap refused (why .same e q))
 
   module _ (r m : RangeChecked) (k : CopyExtent → ℕ → A) where
     pub range-goes : (v : CopyExtent) (n : ℕ) → r ≡ m → r ≡ R.GoOn v n → x ≡ k v n → x ≡ after-range m refused k
     unfolding after-range
     range-goes v n p q h = rw (sym p ∙ q) h
 
-    pub range-stops : (d e : TransferError) → r ≡ m → r ≡ R.Refused e → ((a : TransferError) → r ≡ R.Refused a → d ≡ a) → x ≡ refused d → x ≡ after-range m refused k
+    pub range-stops : (d e : TransferError) → x ≡ refused d → r ≡ m → r ≡ R.Refused e → HandsUp R.Refused r d → x ≡ after-range m refused k
     unfolding after-range
-    range-stops d e p q why h = rw (sym p ∙ q) (h ∙ ap refused (why e q))
+    range-stops d e h p q why = rw (sym p ∙ q) (h ∙ ap refused (why .same e q))
 
   module _ (r m : SelectorChecked) (k : TextureCopyBase → A) where
     pub selector-goes : (s : TextureSelector) (b : TextureCopyBase) → r ≡ m → r ≡ S.GoOn s b → x ≡ k b → x ≡ after-selector m refused k
     unfolding after-selector
     selector-goes s b p q h = rw (sym p ∙ q) h
 
-    pub selector-stops : (d e : TransferError) → r ≡ m → r ≡ S.Refused e → ((a : TransferError) → r ≡ S.Refused a → d ≡ a) → x ≡ refused d → x ≡ after-selector m refused k
+    pub selector-stops : (d e : TransferError) → x ≡ refused d → r ≡ m → r ≡ S.Refused e → HandsUp S.Refused r d → x ≡ after-selector m refused k
     unfolding after-selector
-    selector-stops d e p q why h = rw (sym p ∙ q) (h ∙ ap refused (why e q))
+    selector-stops d e h p q why = rw (sym p ∙ q) (h ∙ ap refused (why .same e q))
 
   module _ (r m : LinearChecked) (k : LinearData → A) where
     pub linear-goes : (s : LinearData) → r ≡ m → r ≡ L.GoOn s → x ≡ k s → x ≡ after-linear m refused k
     unfolding after-linear
     linear-goes s p q h = rw (sym p ∙ q) h
 
-    pub linear-stops : (d e : TransferError) → r ≡ m → r ≡ L.Refused e → ((a : TransferError) → r ≡ L.Refused a → d ≡ a) → x ≡ refused d → x ≡ after-linear m refused k
+    pub linear-stops : (d e : TransferError) → x ≡ refused d → r ≡ m → r ≡ L.Refused e → HandsUp L.Refused r d → x ≡ after-linear m refused k
     unfolding after-linear
-    linear-stops d e p q why h = rw (sym p ∙ q) (h ∙ ap refused (why e q))
+    linear-stops d e h p q why = rw (sym p ∙ q) (h ∙ ap refused (why .same e q))
 
 pub ruleset copied = (flag-lines, after-goes, after-stops, range-goes, range-stops, selector-goes, selector-stops, linear-goes, linear-stops)
 

@@ -1,5 +1,5 @@
 // The refusal of a rule's answer, for the copies that hand it up.
-ghost use mathlib.Core.Path.{_≡_};
+ghost use Rattle.rule_answers.specs.Answers.{HandsUp};
 use linear::LinearChecked;
 use ranges::RangeChecked;
 use refusals::Checked;
@@ -7,7 +7,7 @@ use refusals::TransferError;
 use selectors::SelectorChecked;
 
 pub fn why(answer: Checked) -> TransferError
-    ensures { λ r. ⌜ ((e : TransferError) → answer ≡ Checked.Refused e → r ≡ e) ⌝ }
+    ensures { λ r. ⌜ HandsUp Checked.Refused answer r ⌝ }
 {
     match answer {
         Checked::GoOn => TransferError::SizeOverflow,
@@ -16,7 +16,7 @@ pub fn why(answer: Checked) -> TransferError
 }
 
 pub fn range_why(answer: RangeChecked) -> TransferError
-    ensures { λ r. ⌜ ((e : TransferError) → answer ≡ RangeChecked.Refused e → r ≡ e) ⌝ }
+    ensures { λ r. ⌜ HandsUp RangeChecked.Refused answer r ⌝ }
 {
     match answer {
         RangeChecked::GoOn(_, _) => TransferError::SizeOverflow,
@@ -25,7 +25,7 @@ pub fn range_why(answer: RangeChecked) -> TransferError
 }
 
 pub fn selector_why(answer: SelectorChecked) -> TransferError
-    ensures { λ r. ⌜ ((e : TransferError) → answer ≡ SelectorChecked.Refused e → r ≡ e) ⌝ }
+    ensures { λ r. ⌜ HandsUp SelectorChecked.Refused answer r ⌝ }
 {
     match answer {
         SelectorChecked::GoOn(_, _) => TransferError::SizeOverflow,
@@ -34,7 +34,7 @@ pub fn selector_why(answer: SelectorChecked) -> TransferError
 }
 
 pub fn linear_why(answer: LinearChecked) -> TransferError
-    ensures { λ r. ⌜ ((e : TransferError) → answer ≡ LinearChecked.Refused e → r ≡ e) ⌝ }
+    ensures { λ r. ⌜ HandsUp LinearChecked.Refused answer r ⌝ }
 {
     match answer {
         LinearChecked::GoOn(_) => TransferError::SizeOverflow,

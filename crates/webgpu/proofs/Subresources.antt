@@ -8,8 +8,8 @@ use Prim.Native.Nat.{ℕ, _+_, _<_, max}
 use native.Mathlib.Omega.{arith}
 use lib.Dec.{eqb, ltb}
 use borrow.Author.Tests.{lt-ltb, ltb-true, eq-eqb, eqb-true, eqb-false}
-use Rattle.checks.specs.Checks.{every, stop-if}
-use Rattle.checks.proofs.Rules.{either, both-true, all-true, went-past, goes-past}
+use Rattle.checks.specs.Checks.{every}
+use Rattle.checks.proofs.Rules.{either, both-true, all-true}
 use Rattle.checks.proofs.Tables.{everyBelow, at-below}
 use Rattle.measures.specs.declared.Extent3d.{Extent3d}
 use Rattle.flags.specs.Flags.{holds, shared, meets}
@@ -18,12 +18,13 @@ use Rattle.levels.specs.declared.TextureDimension.the-variants.{D1, D2, D3}
 use Rattle.formats.specs.declared.TextureAspect.{TextureAspect}
 use Rattle.formats.specs.declared.TextureAspect.the-variants.{All, StencilOnly, DepthOnly, Plane0, Plane1, Plane2}
 use Rattle.formats.specs.Aspects.{chosenAspects}
-use Rattle.refusals.specs.declared.TransferError.the-variants as E
 use Rattle.refusals.specs.declared.Checked.{Checked}
 use Rattle.refusals.specs.declared.Checked.the-variants as C
+use Rattle.refusals.specs.Order.{Checks, checked}
+use Rattle.refusals.proofs.Order.{all-pass as none-refuses, none-in, test-fails, test-off, checked-passes}
 use Rattle.records.specs.declared.Texture.{Texture}
 use Rattle.records.specs.declared.TexelCopyTextureInfo.{TexelCopyTextureInfo}
-use Rattle.selectors.specs.Selector.{overlaps, sameTextureChecked}
+use Rattle.selectors.specs.Selector.{overlaps, sameTextureChecks}
 use Rattle.webgpu.specs.Formats.{Aspect, Color, Depth, Stencil, Part, formats, Known, formatOf, named, dimensionOf}
 use Rattle.webgpu.specs.WebGpu.{Subresource, Among, InSet, LayerOf, Disjoint}
 use Rattle.webgpu.specs.Agreement.{bits, layersOf, MovesWithin, AllowsWithin, SameTexture, SameTextureParts}
@@ -237,23 +238,22 @@ module _ (t : Texture) (src dst : TexelCopyTextureInfo) (size : Extent3d) (k : K
         level = eqb-true _ _ (all .1 .1 .1 .0);
       }
 
-  abbrev refusal : Checked
-  refusal = C.Refused (E.InvalidCopyWithinSameTexture (src .aspect) (dst .aspect) (src .origin .z) (dst .origin .z) n)
+  abbrev rule : Checks
+  rule = sameTextureChecks src dst (t .format) n
 
   -- the rule goes on exactly where nothing overlaps
   allows : (Overlap → ⊥) → AllowsWithin t src dst size
-  unfolding sameTextureChecked
+  unfolding sameTextureChecks
   allows apart = go (overlaps src dst (t .format) n) refl
     where
-      go : (o : Bool) → overlaps src dst (t .format) n ≡ o → stop-if (overlaps src dst (t .format) n) refusal C.GoOn ≡ C.GoOn
+      go : (o : Bool) → overlaps src dst (t .format) n ≡ o → checked rule ≡ C.GoOn
       go true e = absurd (apart (overlap-of e))
-      go false e = goes-past Checked (overlaps src dst (t .format) n) refusal C.GoOn e
+      go false e = none-refuses Checked C.Refused C.GoOn rule (test-off _ _ e, tt)
 
   allowed : AllowsWithin t src dst size → Overlap → ⊥
-  unfolding sameTextureChecked
+  unfolding sameTextureChecks
   allowed e o =
-      let g = went-past Checked (overlaps src dst (t .format) n) refusal C.GoOn C.GoOn e (λ r. let z : _≡_ {A = ℕ} 0 1 = cc in omega arith) in
-      let z : _≡_ {A = Bool} true false = sym (overlap-by o) ∙ g .0 in
+      let z : _≡_ {A = Bool} true false = sym (overlap-by o) ∙ test-fails _ _ (none-in rule (checked-passes rule e) 0) in
       let y : _≡_ {A = ℕ} 0 1 = cc in
       omega arith
 
