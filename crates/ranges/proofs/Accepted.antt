@@ -30,12 +30,12 @@ use Rattle.ranges.specs.Laws.{RangeLaws, EveryRange}
 
 -- ---- one dimension
 
-record Run (exact : Bool) (start size limit : ℕ) : Type 0 where
-  inside : start + size ≤ limit
-  whole : exact ≡ true → size ≡ limit
+pub record Run (exact : Bool) (start size limit : ℕ) : Type 0 where
+  pub inside : start + size ≤ limit
+  pub whole : exact ≡ true → size ≡ limit
 
 module _ (of : Subject) (d : TextureErrorDimension) (start size limit : ℕ) (exact : Bool) where
-  run-of : flatten (dimensionChecks of d start size limit exact) ≡ [] → Run exact start size limit
+  pub run-of : flatten (dimensionChecks of d start size limit exact) ≡ [] → Run exact start size limit
   unfolding dimensionChecks overruns isPartial
   run-of h =
       let n = none-in (dimensionChecks of d start size limit exact) h in
@@ -56,7 +56,7 @@ module _ (of : Subject) (d : TextureErrorDimension) (start size limit : ℕ) (ex
       rw (e, eq-eqb start 0 (omega arith), eq-eqb size limit w)
   not-partial r false e = rw e
 
-  run-goes : Run exact start size limit → flatten (dimensionChecks of d start size limit exact) ≡ []
+  pub run-goes : Run exact start size limit → flatten (dimensionChecks of d start size limit exact) ≡ []
   unfolding dimensionChecks overruns
   run-goes r =
       let i = r .inside in

@@ -1,9 +1,11 @@
 -- How the checks of a copy between textures go on after a rule's answer was taken apart.
 -- Assumes nothing.
-use mathlib.Core.Path.{_≡_, sym, ap, _∙_}
-use mathlib.Core.Bool.{true}
+use mathlib.Core.Path.{_≡_, refl, sym, ap, _∙_}
+use mathlib.Core.Bool.{Bool, true, false, not}
+use mathlib.Core.List.{[]}
 use Prim.Native.Nat.{ℕ, _^_, _≤_, _<_}
 use native.Mathlib.Omega.{arith}
+use Rattle.checks.specs.Checks.{pick}
 use Rattle.measures.specs.declared.Extent3d.{Extent3d}
 use Rattle.measures.specs.Measure.{physicalSize}
 use Rattle.formats.specs.declared.TextureAspect.{TextureAspect}
@@ -13,6 +15,9 @@ use Rattle.levels.specs.declared.TextureDimension.{TextureDimension}
 use Rattle.levels.specs.declared.TextureDimension.the-variants.{D1, D2, D3}
 use Rattle.levels.specs.Level.{dimensionOf}
 use Rattle.refusals.specs.declared.CopySide.{CopySide}
+use Rattle.refusals.specs.declared.Checked.{Checked}
+use Rattle.refusals.specs.declared.Checked.the-variants as C
+use Rattle.refusals.specs.Order.{Checks, decided, checked}
 use Rattle.records.specs.declared.Texture.{Texture}
 use Rattle.records.specs.declared.TexelCopyTextureInfo.{TexelCopyTextureInfo}
 use Rattle.records.specs.Limits.{maxSide3d}
@@ -23,8 +28,8 @@ use Rattle.ranges.specs.declared.CopyExtent.{CopyExtent}
 use Rattle.ranges.specs.declared.RangeChecked.{RangeChecked}
 use Rattle.ranges.specs.declared.RangeChecked.the-variants as R
 use Rattle.ranges.specs.Range.{layersOf, arrayLayerCount, rangeChecked}
-use Rattle.ranges.proofs.Accepted.{every-range}
-use Rattle.copies.proofs.Rules.{copied}
+use Rattle.ranges.proofs.Accepted.{range-went}
+use Rattle.rule_answers.proofs.Rules.{copied}
 use Rattle.texture_plans.specs.declared.TexturePlan.{TexturePlan}
 use Rattle.texture_copies.specs.declared.TexturePlanned.the-variants as P
 
@@ -33,6 +38,19 @@ pub planned-alike : (p q : TexturePlan) → p ≡ q → P.Plan p ≡ P.Plan q
 planned-alike p q e = ap P.Plan e
 
 pub ruleset planned = (copied, planned-alike)
+
+-- ---- checks that are made under a test
+
+pub not-asked : (t : Bool) (checks : Checks) → not t ≡ true → C.GoOn ≡ checked (pick t checks [])
+unfolding decided
+not-asked true checks h = let z : _≡_ {A = ℕ} 0 1 = cc in absurd (omega arith)
+not-asked false checks h = refl
+
+pub asked : (t : Bool) (checks : Checks) (x : Checked) → not t ≡ false → x ≡ checked checks → x ≡ checked (pick t checks [])
+asked true checks x h k = k
+asked false checks x h k = let z : _≡_ {A = ℕ} 0 1 = cc in absurd (omega arith)
+
+pub ruleset under-test = (not-asked, asked)
 
 -- ---- what callees need
 
@@ -56,7 +74,7 @@ pub layers-few :
     → textureInBounds t ≡ true → r ≡ rangeChecked view t side size → r ≡ R.GoOn v n → n < 2 ^ 16
 unfolding arrayLayerCount physicalExtent physicalSize
 layers-few r view t side size v n bound p q =
-    let l = every-range view t side size .went-on v n (sym p ∙ q) in
+    let l = range-went view t side size v n (sym p ∙ q) in
     let deep = texture-laws t bound .level-sized (view .«mip_level») .depth-few in
     let some = few (dimensionOf (t .dimension)) (size .«depth_or_array_layers») (omega (arith, l .0 .z-inside)) in
     omega (arith, l .2)

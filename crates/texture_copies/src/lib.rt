@@ -5,10 +5,14 @@ ghost use Prim.Native.Nat.{_/_, _<_, _^_};
 ghost use lib.Dec.{eqb};
 ghost use Rattle.formats.specs.Sheet.{aspectsOf};
 ghost use Rattle.formats.specs.Aspects.{subsamplingFactor};
-ghost use Rattle.ranges.specs.Range.{subjectOf, dimensionChecked, rangeChecked};
-ghost use Rattle.selectors.specs.Selector.{selectorChecked, sameTextureChecked};
-ghost use Rattle.records.specs.Bounds.{textureInBounds, textureChecked};
-ghost use Rattle.texture_copies.specs.Plan.{isThis, isPlaneSplit, formatsDiffer, planeWidth, planeHeight, planeSides, planeChecked, withinOne, usable, selectedCopy, withinCopy, rangedCopy, matchedCopy, textureToTexture};
+ghost use Rattle.refusals.specs.Order.{checked};
+ghost use Rattle.ranges.specs.Range.{subjectOf, dimensionChecks, rangeChecked};
+ghost use Rattle.selectors.specs.Selector.{selectorChecked, sameTextureChecks};
+ghost use Rattle.records.specs.Bounds.{textureInBounds, textureChecks};
+ghost use Rattle.texture_copies.specs.Copy.{isThis, isPlaneSplit, formatsDiffer, planeWidth, planeHeight};
+ghost use Rattle.texture_copies.specs.Plan.{planeChecks, textureToTexture};
+ghost use Rattle.texture_copies.specs.Laws.{EveryCopyLaw};
+ghost use Rattle.texture_copies.specs.Stages.{planeSides, withinPlane, withinOne, usable, selectedCopy, withinCopy, rangedCopy, matchedCopy};
 use flags::TextureUsages;
 use formats::TextureAspect;
 use measures::Extent3d;
@@ -119,14 +123,14 @@ fn check_plane_side(
     size: u32,
     limit: u32,
 ) -> Checked
-    ensures { λ r. ⌜ r ≡ dimensionChecked (subjectOf (src .texture) CopySide.Source) dimension start size limit false ⌝ }
+    ensures { λ r. ⌜ r ≡ checked (dimensionChecks (subjectOf (src .texture) CopySide.Source) dimension start size limit false) ⌝ }
 {
     let texture = src.texture;
     ranges::check_dimension(source_of(texture), dimension, start, size, limit, false)
 }
 
 fn check_plane_sides(src: TextureSide, size: Extent3d, width: u32, height: u32) -> Checked
-    ensures { λ r. ⌜ r ≡ planeSides src size width height ⌝ }
+    ensures { λ r. ⌜ r ≡ checked (planeSides src size width height) ⌝ }
 {
     let view = src.view;
     let origin = view.origin;
@@ -142,13 +146,13 @@ fn check_plane_sides(src: TextureSide, size: Extent3d, width: u32, height: u32) 
 }
 
 fn check_plane_extent(src: TextureSide, size: Extent3d) -> Checked
-    ensures { λ r. ⌜ r ≡ planeSides src size (planeWidth src) (planeHeight src) ⌝ }
+    ensures { λ r. ⌜ r ≡ checked (planeChecks src size) ⌝ }
 {
     check_plane_sides(src, size, plane_width(src), plane_height(src))
 }
 
 fn check_plane(split: bool, src: TextureSide, size: Extent3d) -> Checked
-    ensures { λ r. ⌜ r ≡ planeChecked split src size ⌝ }
+    ensures { λ r. ⌜ r ≡ checked (withinPlane split src size) ⌝ }
 {
     if !split {
         return Checked::GoOn;
@@ -157,7 +161,7 @@ fn check_plane(split: bool, src: TextureSide, size: Extent3d) -> Checked
 }
 
 fn check_within(src: TextureSide, dst: TextureSide, layers: u32) -> Checked
-    ensures { λ r. ⌜ r ≡ sameTextureChecked (src .view) (dst .view) (src .texture .format) layers ⌝ }
+    ensures { λ r. ⌜ r ≡ checked (sameTextureChecks (src .view) (dst .view) (src .texture .format) layers) ⌝ }
 {
     let src_view = src.view;
     let dst_view = dst.view;
@@ -166,7 +170,7 @@ fn check_within(src: TextureSide, dst: TextureSide, layers: u32) -> Checked
 }
 
 fn check_one_texture(same: bool, src: TextureSide, dst: TextureSide, layers: u32) -> Checked
-    ensures { λ r. ⌜ r ≡ withinOne same src dst layers ⌝ }
+    ensures { λ r. ⌜ r ≡ checked (withinOne same src dst layers) ⌝ }
 {
     if !same {
         return Checked::GoOn;
@@ -256,11 +260,11 @@ fn select_copy(
 {
     let from = select_side(src, size);
     let SelectorChecked::GoOn(_, src_base) = from else {
-        return TexturePlanned::Refused(copies::selector_why(from));
+        return TexturePlanned::Refused(rule_answers::selector_why(from));
     };
     let to = select_side(dst, size);
     let SelectorChecked::GoOn(_, dst_base) = to else {
-        return TexturePlanned::Refused(copies::selector_why(to));
+        return TexturePlanned::Refused(rule_answers::selector_why(to));
     };
     if lacks_src_aspects(split, src, src_base) {
         return TexturePlanned::Refused(TransferError::CopySrcMissingAspects);
@@ -304,11 +308,11 @@ pub fn place_copy(
 {
     let plane = check_plane(split, src, size);
     let Checked::GoOn = plane else {
-        return TexturePlanned::Refused(refusals::why(plane));
+        return TexturePlanned::Refused(rule_answers::why(plane));
     };
     let one = check_one_texture(same, src, dst, layers);
     let Checked::GoOn = one else {
-        return TexturePlanned::Refused(refusals::why(one));
+        return TexturePlanned::Refused(rule_answers::why(one));
     };
     select_copy(split, src, dst, size, src_extent, dst_extent, layers)
 }
@@ -325,17 +329,17 @@ fn range_copy(
 {
     let from = range_side(src, CopySide::Source, size);
     let RangeChecked::GoOn(src_extent, layers) = from else {
-        return TexturePlanned::Refused(copies::range_why(from));
+        return TexturePlanned::Refused(rule_answers::range_why(from));
     };
     let to = range_side(dst, CopySide::Destination, size);
     let RangeChecked::GoOn(dst_extent, _) = to else {
-        return TexturePlanned::Refused(copies::range_why(to));
+        return TexturePlanned::Refused(rule_answers::range_why(to));
     };
     place_copy(same, split, src, dst, size, src_extent, dst_extent, layers)
 }
 
 fn check_side(side: TextureSide, of: CopySide) -> Checked
-    ensures { λ r. ⌜ r ≡ textureChecked (side .texture) of ⌝ }
+    ensures { λ r. ⌜ r ≡ checked (textureChecks (side .texture) of) ⌝ }
 {
     let texture = side.texture;
     records::check_texture(texture, of)
@@ -381,11 +385,16 @@ pub fn copy_texture_to_texture(
 {
     let from = check_side(src, CopySide::Source);
     let Checked::GoOn = from else {
-        return TexturePlanned::Refused(refusals::why(from));
+        return TexturePlanned::Refused(rule_answers::why(from));
     };
     let to = check_side(dst, CopySide::Destination);
     let Checked::GoOn = to else {
-        return TexturePlanned::Refused(refusals::why(to));
+        return TexturePlanned::Refused(rule_answers::why(to));
     };
     match_split(src_index == dst_index, src, dst, copy_size)
 }
+
+// Asks the check for the law of accepted copies; nothing runs here.
+pub fn copy_laws()
+    ensures { λ _. ⌜ EveryCopyLaw ⌝ }
+{}

@@ -5,7 +5,7 @@ use Rattle.checks.specs.Checks.{pick, stop-if, _$_}
 use Rattle.formats.specs.Sheet.{DEPTH, STENCIL, PLANE-0, PLANE-1}
 use Rattle.ranges.specs.declared.CopyExtent.{CopyExtent}
 use Rattle.selectors.specs.declared.TextureCopyBase.{TextureCopyBase}
-use Rattle.copies.specs.Copies.{nextLayer}
+use Rattle.selectors.specs.Selector.{nextLayer}
 use Rattle.texture_plans.specs.declared.CopyParts.{CopyParts}
 use Rattle.texture_plans.specs.declared.CopyParts.the-variants.{Whole, DepthStencil, Planes}
 use Rattle.texture_plans.specs.declared.TextureCopy.{TextureCopy}

@@ -8,7 +8,7 @@ use Rattle.ranges.specs.declared.CopyExtent.{CopyExtent}
 use Rattle.selectors.specs.declared.TextureCopyBase.{TextureCopyBase}
 use Rattle.init.specs.declared.TextureInitRange.{TextureInitRange}
 use Rattle.init.specs.Init.{srcTextureRange, dstTextureRange}
-use Rattle.copies.specs.Copies.{isEmpty}
+use Rattle.measures.specs.Measure.{isEmpty}
 use Rattle.texture_plans.specs.declared.TextureSide.{TextureSide}
 use Rattle.texture_plans.specs.declared.CopyParts.{CopyParts}
 use Rattle.texture_plans.specs.declared.CopyParts.the-variants.{Whole, DepthStencil, Planes}

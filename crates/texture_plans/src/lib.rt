@@ -4,7 +4,7 @@ ghost use Prim.Native.Nat.{_*_, _/_, _<_, _≤_, _^_, min};
 ghost use lib.Dec.{eqb};
 ghost use Rattle.checks.specs.Checks.{pick};
 ghost use Rattle.formats.specs.Sheet.{DEPTH, STENCIL, PLANE-0, PLANE-1};
-ghost use Rattle.copies.specs.Copies.{isEmpty};
+ghost use Rattle.measures.specs.Measure.{isEmpty};
 ghost use Rattle.init.specs.Init.{srcTextureRange, dstTextureRange};
 ghost use Rattle.texture_plans.specs.Plan.{lesser, partsOf, partCount, rangesOf, planOf};
 ghost use Rattle.texture_plans.specs.Asking.{baseAs, sizeBy, regionAs, regionOf, otherPart, otherLayer, advanced, nextOf};
@@ -132,7 +132,7 @@ fn texture_ranges(src: TextureSide, dst: TextureSide, size: Extent3d) -> Texture
     let dst_view = dst.view;
     let dst_texture = dst.texture;
     ranges_of(
-        copies::is_empty(size),
+        measures::is_empty(size),
         init::src_texture_range(src_view, src_texture, size),
         init::dst_texture_range(dst_view, dst_texture, size),
     )
@@ -155,7 +155,7 @@ pub fn plan_of(
     let dst_texture = dst.texture;
     let parts = parts_of(dst_texture.format);
     let lesser = lesser_of(src_extent, dst_extent);
-    let left = region_count(copies::is_empty(size), layers, parts);
+    let left = region_count(measures::is_empty(size), layers, parts);
     let ranges = texture_ranges(src, dst, size);
     TexturePlan {
         src: src_base,
@@ -285,8 +285,8 @@ impl TexturePlan {
         let size = self.size;
         let parts = self.parts;
         let ranges = self.ranges;
-        let from = copies::next_layer(src);
-        let to = copies::next_layer(dst);
+        let from = selectors::next_layer(src);
+        let to = selectors::next_layer(dst);
         TexturePlan {
             src: from,
             dst: to,

@@ -3,7 +3,7 @@
 use borrow.Author.Needs.{needs}
 use Rattle.texture_copies.proofs.Rules.{planned, layers-few}
 use Rattle.refusals.specs.declared.CopySide.the-variants.{Source}
-use Rattle.texture_copies.specs.Plan.{rangedCopy}
+use Rattle.texture_copies.specs.Stages.{rangedCopy}
 use Rattle.texture_copies.proofs.range_copy.Statement.{statement}
 use Rattle.texture_copies.proofs.range_copy.Tie as tie
 

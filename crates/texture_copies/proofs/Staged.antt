@@ -1,0 +1,29 @@
+-- The stages answer the first refusal of the list, or the plan.
+-- Assumes nothing.
+use mathlib.Core.Path.{_≡_, _∙_}
+use mathlib.Core.Bool.{Bool}
+use Prim.Native.Nat.{ℕ}
+use Rattle.checks.specs.Checks.{stop-if}
+use Rattle.measures.specs.declared.Extent3d.{Extent3d}
+use Rattle.refusals.specs.declared.TransferError.{TransferError}
+use Rattle.refusals.specs.Order.{refuse-if, first, decided}
+use Rattle.refusals.proofs.Order.{line}
+use Rattle.ranges.specs.Range.{rangeChecked}
+use Rattle.selectors.specs.Selector.{baseOf, selectorChecked}
+use Rattle.rule_answers.proofs.Rules.{past-rule, past-range, past-selector}
+use Rattle.texture_plans.specs.declared.TextureSide.{TextureSide}
+use Rattle.texture_copies.specs.declared.TexturePlanned.{TexturePlanned}
+use Rattle.texture_copies.specs.declared.TexturePlanned.the-variants as P
+use Rattle.texture_copies.specs.Copy.{isOneTexture, planFor}
+use Rattle.texture_copies.specs.Plan.{copyChecks, textureToTexture}
+use Rattle.texture_copies.specs.Stages.{withinPlane, withinOne, usable, selectedCopy, rangedCopy, copyStaged}
+
+line-p : (t : Bool) (e : TransferError) (rest : TexturePlanned) → stop-if t (P.Refused e) rest ≡ first (refuse-if t e) P.Refused rest
+line-p t e rest = line TexturePlanned P.Refused t e rest
+
+copy-law : (i : ℕ) (src : TextureSide) (j : ℕ) (dst : TextureSide) (size : Extent3d) → copyStaged i src j dst size ≡ textureToTexture i src j dst size
+unfolding copyStaged rangedCopy selectedCopy usable withinPlane withinOne rangeChecked selectorChecked baseOf textureToTexture copyChecks isOneTexture planFor decided
+copy-law i src j dst size = simp (line-p, past-rule, past-range, past-selector)
+
+pub by-law : (i : ℕ) (src : TextureSide) (j : ℕ) (dst : TextureSide) (size : Extent3d) (x : TexturePlanned) → x ≡ copyStaged i src j dst size → x ≡ textureToTexture i src j dst size
+by-law i src j dst size x h = h ∙ copy-law i src j dst size
