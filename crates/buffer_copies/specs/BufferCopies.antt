@@ -6,7 +6,8 @@ use Rattle.checks.specs.Checks.{pick, stop-if, _$_}
 use Rattle.measures.specs.declared.OptionU64.{OptionU64}
 use Rattle.measures.specs.declared.OptionU64.the-variants as O
 use Rattle.measures.specs.Measure.{multiple}
-use Rattle.flags.specs.Flags.{holds}
+use Rattle.flags.specs.BufferUsages as BufferUsages
+use Rattle.flags.specs.Flags.{contains}
 use Rattle.refusals.specs.declared.CopySide.the-variants.{Source, Destination}
 use Rattle.refusals.specs.declared.DownlevelFlags.the-variants.{UnrestrictedIndexBuffer}
 use Rattle.refusals.specs.declared.TransferError.{TransferError}
@@ -32,12 +33,12 @@ sizeOf O.Absent left = left
 
 -- VERTEX, UNIFORM, INDIRECT or STORAGE
 unfoldable pub isShared : ℕ → Bool
-isShared usage = holds usage 32 || (holds usage 64 || (holds usage 256 || holds usage 128))
+isShared usage = contains usage BufferUsages.VERTEX || (contains usage BufferUsages.UNIFORM || (contains usage BufferUsages.INDIRECT || contains usage BufferUsages.STORAGE))
 
 -- without the index fact, an INDEX buffer where either buffer has one of those
 unfoldable pub lacksIndexFact : Device → ℕ → ℕ → Bool
 lacksIndexFact device src dst =
-    not (device .«unrestricted_index_buffer») && ((holds src 16 || holds dst 16) && (isShared src || isShared dst))
+    not (device .«unrestricted_index_buffer») && ((contains src BufferUsages.INDEX || contains dst BufferUsages.INDEX) && (isShared src || isShared dst))
 
 abbrev pub isEmpty : ℕ → Bool
 isEmpty size = eqb size 0
@@ -74,8 +75,8 @@ sizedCopy device src srcOffset dst dstOffset size =
 abbrev pub usableCopy : Device → ℕ → Buffer → ℕ → ℕ → Buffer → ℕ → OptionU64 → BufferPlanned
 usableCopy device i src srcOffset j dst dstOffset size =
     stop-if (eqb i j) (P.Refused E.SameSourceDestinationBuffer) $
-    stop-if (not (holds (src .usage .0) 4)) (P.Refused (E.MissingBufferUsage Source)) $
-    stop-if (not (holds (dst .usage .0) 8)) (P.Refused (E.MissingBufferUsage Destination)) $
+    stop-if (not (contains (src .usage .0) BufferUsages.COPY-SRC)) (P.Refused (E.MissingBufferUsage Source)) $
+    stop-if (not (contains (dst .usage .0) BufferUsages.COPY-DST)) (P.Refused (E.MissingBufferUsage Destination)) $
     stop-if (ltb (src .size) srcOffset) (P.Refused (E.BufferStartOffsetOverrun srcOffset (src .size) Source)) $
     sizedCopy device src srcOffset dst dstOffset (sizeOf size (src .size - srcOffset))
 

@@ -9,7 +9,7 @@ use borrow.Author.Tests.{ltb-false}
 use Rattle.checks.specs.Checks.{stop-if}
 use Rattle.checks.proofs.Rules.{went-past}
 use Rattle.measures.specs.Measure.{multiple}
-use Rattle.flags.specs.Flags.{holds}
+use Rattle.flags.specs.Flags.{contains}
 use Rattle.refusals.specs.declared.CopySide.the-variants.{Source, Destination}
 use Rattle.refusals.specs.declared.DownlevelFlags.the-variants.{UnrestrictedIndexBuffer}
 use Rattle.refusals.specs.declared.TransferError.{TransferError}
@@ -64,8 +64,8 @@ checks-of device i j c p h =
     let a = passed p (bufferChecked src Source) _ h in
     let b = passed p (bufferChecked dst Destination) _ a in
     let other = past p (eqb i j) E.SameSourceDestinationBuffer _ b in
-    let u = past p (not (holds (src .usage .0) 4)) (E.MissingBufferUsage Source) _ (other .1) in
-    let v = past p (not (holds (dst .usage .0) 8)) (E.MissingBufferUsage Destination) _ (u .1) in
+    let u = past p (not (contains (src .usage .0) 4)) (E.MissingBufferUsage Source) _ (other .1) in
+    let v = past p (not (contains (dst .usage .0) 8)) (E.MissingBufferUsage Destination) _ (u .1) in
     let start = past p (ltb (src .size) from) (E.BufferStartOffsetOverrun from (src .size) Source) _ (v .1) in
     let whole = past p (not (multiple n 4)) (E.UnalignedCopySize n) _ (start .1) in
     let x = past p (not (multiple from 4)) (E.UnalignedBufferOffset from) _ (whole .1) in

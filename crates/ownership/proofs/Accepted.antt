@@ -9,7 +9,7 @@ use borrow.Author.Tests.{not-false}
 use Rattle.checks.specs.Checks.{stop-if}
 use Rattle.checks.proofs.Rules.{went-past}
 use Rattle.measures.specs.Measure.{multiple}
-use Rattle.flags.specs.Flags.{holds, isOne}
+use Rattle.flags.specs.Flags.{contains, isOne}
 use Rattle.formats.specs.Aspects.{chosenAspects}
 use Rattle.refusals.specs.declared.CopySide.{CopySide}
 use Rattle.refusals.specs.declared.CopySide.the-variants.{Source, Destination}
@@ -154,8 +154,8 @@ uploaded c p h =
     let t = passed (textureChecked (c .texture) Destination) _ p (b .1) in
     let r = ranged (rangeChecked (c .view) (c .texture) Destination (c .size)) _ p (t .1) in
     let s = selected (selectorChecked (c .view) (c .texture) (c .size)) _ p (r .3) in
-    let u = past (not (holds (c .buffer .usage .0) 4)) (E.MissingBufferUsage Source) _ p (s .3) in
-    let w = past (not (holds (c .texture .usage .0) 2)) (E.MissingTextureUsage Destination) _ p (u .1) in
+    let u = past (not (contains (c .buffer .usage .0) 4)) (E.MissingBufferUsage Source) _ p (s .3) in
+    let w = past (not (contains (c .texture .usage .0) 2)) (E.MissingTextureUsage Destination) _ p (u .1) in
     let f = passed (dstFormat (c .texture .format) (c .view .aspect)) _ p (w .1) in
     let o = passed (textureBufferCopy (c .view .aspect) (s .1 .aspect .0) (c .texture) (c .layout) true) _ p (f .1) in
     let l = laid (linearData (c .layout) (c .texture .format) (c .view .aspect) (c .buffer .size) Source (c .size)) _ p (o .1) in
@@ -180,13 +180,13 @@ downloaded c p h =
     let b = passed (bufferChecked (c .buffer) Destination) _ p (t .1) in
     let r = ranged (rangeChecked (c .view) (c .texture) Source (c .size)) _ p (b .1) in
     let s = selected (selectorChecked (c .view) (c .texture) (c .size)) _ p (r .3) in
-    let w = past (not (holds (c .texture .usage .0) 1)) (E.MissingTextureUsage Source) _ p (s .3) in
+    let w = past (not (contains (c .texture .usage .0) 1)) (E.MissingTextureUsage Source) _ p (s .3) in
     let m = past (leb (c .texture .«mip_level_count») (c .view .«mip_level»)) (E.InvalidMipLevel (c .view .«mip_level») (c .texture .«mip_level_count»)) _ p (w .1) in
     let f = passed (srcFormat (c .texture .format) (c .view .aspect)) _ p (m .1) in
     let o = passed (textureBufferCopy (c .view .aspect) (s .1 .aspect .0) (c .texture) (c .layout) true) _ p (f .1) in
     let l = laid (linearData (c .layout) (c .texture .format) (c .view .aspect) (c .buffer .size) Destination (c .size)) _ p (o .1) in
     let d = past (lacksDepthFact (c .device) (c .texture .format)) (E.MissingDownlevelFlags DepthTextureAndBufferCopies) _ p (l .2) in
-    let u = past (not (holds (c .buffer .usage .0) 8)) (E.MissingBufferUsage Destination) _ p (d .1) in
+    let u = past (not (contains (c .buffer .usage .0) 8)) (E.MissingBufferUsage Destination) _ p (d .1) in
     let base = base-of c (s .0) (s .1) (s .2) in
     let range = every-range (c .view) (c .texture) Source (c .size) .went-on (r .0) (r .1) (r .2) in
     let linear = every-linear .rule (c .layout) (c .buffer .size) Destination (denseFor c) .went-on (l .0) (l .1) in

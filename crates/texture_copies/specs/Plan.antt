@@ -6,7 +6,8 @@ use Rattle.checks.specs.Checks.{stop-if, _$_}
 use Rattle.measures.specs.declared.Extent3d.{Extent3d}
 use Rattle.measures.specs.declared.OptionU32.{OptionU32}
 use Rattle.measures.specs.declared.OptionU32.the-variants as O
-use Rattle.flags.specs.Flags.{holds}
+use Rattle.flags.specs.TextureUsages as TextureUsages
+use Rattle.flags.specs.Flags.{contains}
 use Rattle.formats.specs.Sheet.{aspectsOf, removeSrgb}
 use Rattle.formats.specs.Aspects.{aspectSpecificFormat, subsamplingFactor}
 use Rattle.refusals.specs.declared.CopySide.the-variants.{Source, Destination}
@@ -70,8 +71,8 @@ withinOne same src dst layers =
 unfoldable pub usable : TextureSide → TextureSide → Extent3d → CopyExtent → CopyExtent → ℕ → TextureCopyBase → TextureCopyBase → TexturePlanned
 usable src dst size srcExtent dstExtent layers srcBase dstBase =
     stop-if (not (eqb (src .texture .«sample_count») (dst .texture .«sample_count»))) (P.Refused (E.SampleCountNotEqual (src .texture .«sample_count») (dst .texture .«sample_count»))) $
-    stop-if (not (holds (src .texture .usage .0) 1)) (P.Refused (E.MissingTextureUsage Source)) $
-    stop-if (not (holds (dst .texture .usage .0) 2)) (P.Refused (E.MissingTextureUsage Destination)) $
+    stop-if (not (contains (src .texture .usage .0) TextureUsages.COPY-SRC)) (P.Refused (E.MissingTextureUsage Source)) $
+    stop-if (not (contains (dst .texture .usage .0) TextureUsages.COPY-DST)) (P.Refused (E.MissingTextureUsage Destination)) $
     P.Plan (planOf src dst size srcExtent dstExtent layers srcBase dstBase)
 
 -- 12 source, destination; 26 (not for the split); 27

@@ -3,7 +3,7 @@
 use mathlib.Core.Path.{_≡_, refl}
 use mathlib.Core.Bool.{Bool, true, false, not, _&&_, _||_}
 use mathlib.Core.Logic.{_⊎_, inl, inr, ⊎-elim}
-use Prim.Native.Nat.{ℕ, _-_, _/_, _%_}
+use Prim.Native.Nat.{ℕ, _-_, _%_}
 use native.Mathlib.Omega.{arith}
 use lib.Dec.{eqb, ltb}
 use borrow.Author.Tests.{le-ltb, ltb-false, eq-eqb, eqb-true, not-true, not-false}
@@ -12,7 +12,7 @@ use Rattle.checks.proofs.Rules.{not-no, both-true, either, went-past, goes-past
 use Rattle.measures.specs.declared.OptionU64.{OptionU64}
 use Rattle.measures.specs.declared.OptionU64.the-variants as O
 use Rattle.measures.specs.Measure.{multiple}
-use Rattle.flags.specs.Flags.{holds}
+use Rattle.flags.specs.Flags.{contains}
 use Rattle.refusals.specs.declared.CopySide.{CopySide}
 use Rattle.refusals.specs.declared.CopySide.the-variants.{Source, Destination}
 use Rattle.refusals.specs.declared.Checked.{Checked}
@@ -30,7 +30,7 @@ use Rattle.buffer_copies.specs.BufferCopies.{isShared, lacksIndexFact, sizeOf, 
 use Rattle.webgpu.specs.WebGpu.{Has, copySizeOf, CopyBufferToBuffer}
 use Rattle.webgpu_copies.specs.Bounds.{BufferInBounds}
 use Rattle.webgpu_copies.specs.WholeCopies.{GivesBufferPlan, Shared, IndexRestricted, BuffersExcepted, BufferToBuffer}
-use Rattle.webgpu_copies.proofs.Lines.{flag-of, flag-by, opposite, tested, past-line, by-line, past-rule, by-rule}
+use Rattle.webgpu_copies.proofs.Lines.{has-of, has-by, flag-of, flag-by, opposite, tested, past-line, by-line, past-rule, by-rule}
 use Rattle.webgpu_copies.proofs.Records.{record-bounds}
 
 -- ---- one line each, both ways
@@ -82,14 +82,6 @@ size-is src offset O.Absent = refl
 
 -- ---- 34, by its test and by its words
 
-has : (word flag : ℕ) → holds word flag ≡ true → Has word flag
-unfolding holds
-has word flag e = eqb-true (word / flag % 2) 1 e
-
-holding : (word flag : ℕ) → Has word flag → holds word flag ≡ true
-unfolding holds
-holding word flag h = eq-eqb (word / flag % 2) 1 h
-
 or-left : (s t : Bool) → s ≡ true → (s || t) ≡ true
 or-left s t e = rw e
 
@@ -101,23 +93,23 @@ shared-of : (b : Buffer) → isShared (b .usage .0) ≡ true → Shared b
 unfolding isShared
 shared-of b e =
     let u = b .usage .0 in
-    ⊎-elim (λ h. inl (has u 32 h)) (λ r.
-    ⊎-elim (λ h. inr (inl (has u 64 h))) (λ r.
-    ⊎-elim (λ h. inr (inr (inl (has u 256 h)))) (λ h. inr (inr (inr (has u 128 h))))
-    (either (holds u 256) (holds u 128) r))
-    (either (holds u 64) _ r))
-    (either (holds u 32) _ e)
+    ⊎-elim (λ h. inl (has-of u 5 h)) (λ r.
+    ⊎-elim (λ h. inr (inl (has-of u 6 h))) (λ r.
+    ⊎-elim (λ h. inr (inr (inl (has-of u 8 h)))) (λ h. inr (inr (inr (has-of u 7 h))))
+    (either (contains u 256) (contains u 128) r))
+    (either (contains u 64) _ r))
+    (either (contains u 32) _ e)
 
 shared-by : (b : Buffer) → Shared b → isShared (b .usage .0) ≡ true
 unfolding isShared
-shared-by b (inl h) = or-left (holds (b .usage .0) 32) _ (holding _ 32 h)
-shared-by b (inr (inl h)) = or-right (holds (b .usage .0) 32) _ (or-left (holds (b .usage .0) 64) _ (holding _ 64 h))
-shared-by b (inr (inr (inl h))) = or-right (holds (b .usage .0) 32) _ (or-right (holds (b .usage .0) 64) _ (or-left (holds (b .usage .0) 256) _ (holding _ 256 h)))
-shared-by b (inr (inr (inr h))) = or-right (holds (b .usage .0) 32) _ (or-right (holds (b .usage .0) 64) _ (or-right (holds (b .usage .0) 256) _ (holding _ 128 h)))
+shared-by b (inl h) = or-left (contains (b .usage .0) 32) _ (has-by _ 5 h)
+shared-by b (inr (inl h)) = or-right (contains (b .usage .0) 32) _ (or-left (contains (b .usage .0) 64) _ (has-by _ 6 h))
+shared-by b (inr (inr (inl h))) = or-right (contains (b .usage .0) 32) _ (or-right (contains (b .usage .0) 64) _ (or-left (contains (b .usage .0) 256) _ (has-by _ 8 h)))
+shared-by b (inr (inr (inr h))) = or-right (contains (b .usage .0) 32) _ (or-right (contains (b .usage .0) 64) _ (or-right (contains (b .usage .0) 256) _ (has-by _ 7 h)))
 
 module _ (device : Device) (src dst : Buffer) where
   abbrev indexed : Bool
-  indexed = holds (src .usage .0) 16 || holds (dst .usage .0) 16
+  indexed = contains (src .usage .0) 16 || contains (dst .usage .0) 16
 
   abbrev shares : Bool
   shares = isShared (src .usage .0) || isShared (dst .usage .0)
@@ -129,7 +121,7 @@ module _ (device : Device) (src dst : Buffer) where
       let q = both-true indexed shares (p .1) in
       record {
         fact = not-true _ (p .0);
-        index = ⊎-elim (λ h. inl (has _ 16 h)) (λ h. inr (has _ 16 h)) (either (holds (src .usage .0) 16) _ (q .0));
+        index = ⊎-elim (λ h. inl (has-of _ 4 h)) (λ h. inr (has-of _ 4 h)) (either (contains (src .usage .0) 16) _ (q .0));
         shared = ⊎-elim (λ h. inl (shared-of src h)) (λ h. inr (shared-of dst h)) (either (isShared (src .usage .0)) _ (q .1));
       }
 
@@ -138,8 +130,8 @@ module _ (device : Device) (src dst : Buffer) where
   restricted-by r = rw (r .fact, index (r .index)) (shared (r .shared))
     where
       index : Has (src .usage .0) 16 ⊎ Has (dst .usage .0) 16 → indexed ≡ true
-      index (inl h) = or-left (holds (src .usage .0) 16) _ (holding _ 16 h)
-      index (inr h) = or-right (holds (src .usage .0) 16) _ (holding _ 16 h)
+      index (inl h) = or-left (contains (src .usage .0) 16) _ (has-by _ 4 h)
+      index (inr h) = or-right (contains (src .usage .0) 16) _ (has-by _ 4 h)
 
       shared : Shared src ⊎ Shared dst → shares ≡ true
       shared (inl h) = or-left (isShared (src .usage .0)) _ (shared-by src h)
@@ -172,8 +164,8 @@ module _ (device : Device) (i j : ℕ) (src dst : Buffer) (srcOffset dstOffset :
       let a = passed (bufferChecked src Source) _ g in
       let b = passed (bufferChecked dst Destination) _ (a .1) in
       let other = past (eqb i j) E.SameSourceDestinationBuffer _ (b .1) in
-      let u = past (not (holds (src .usage .0) 4)) (E.MissingBufferUsage Source) _ (other .1) in
-      let v = past (not (holds (dst .usage .0) 8)) (E.MissingBufferUsage Destination) _ (u .1) in
+      let u = past (not (contains (src .usage .0) 4)) (E.MissingBufferUsage Source) _ (other .1) in
+      let v = past (not (contains (dst .usage .0) 8)) (E.MissingBufferUsage Destination) _ (u .1) in
       let start = past (ltb (src .size) srcOffset) (E.BufferStartOffsetOverrun srcOffset (src .size) Source) _ (v .1) in
       let whole = past (not (multiple n 4)) (E.UnalignedCopySize n) _ (start .1) in
       let x = past (not (multiple srcOffset 4)) (E.UnalignedBufferOffset srcOffset) _ (whole .1) in
@@ -186,8 +178,8 @@ module _ (device : Device) (i j : ℕ) (src dst : Buffer) (srcOffset dstOffset :
         rules =
             record {
               different = other .0;
-              src-usage = flag-of (src .usage .0) 4 (u .0);
-              dst-usage = flag-of (dst .usage .0) 8 (v .0);
+              src-usage = flag-of (src .usage .0) 2 (u .0);
+              dst-usage = flag-of (dst .usage .0) 3 (v .0);
               size-aligned = multiple-of n 4 (whole .0);
               src-aligned = multiple-of srcOffset 4 (x .0);
               dst-aligned = multiple-of dstOffset 4 (y .0);
@@ -208,8 +200,8 @@ module _ (device : Device) (i j : ℕ) (src dst : Buffer) (srcOffset dstOffset :
       pass (bufferChecked src Source) _ (buffer-goes src Source (buffer-bounds src (λ x. kept (inl x))))
       (pass (bufferChecked dst Destination) _ (buffer-goes dst Destination (buffer-bounds dst (λ x. kept (inr (inl x)))))
       (by (eqb i j) E.SameSourceDestinationBuffer _ (v .different)
-      (by (not (holds (src .usage .0) 4)) (E.MissingBufferUsage Source) _ (flag-by (src .usage .0) 4 (v .src-usage))
-      (by (not (holds (dst .usage .0) 8)) (E.MissingBufferUsage Destination) _ (flag-by (dst .usage .0) 8 (v .dst-usage))
+      (by (not (contains (src .usage .0) 4)) (E.MissingBufferUsage Source) _ (flag-by (src .usage .0) 2 (v .src-usage))
+      (by (not (contains (dst .usage .0) 8)) (E.MissingBufferUsage Destination) _ (flag-by (dst .usage .0) 3 (v .dst-usage))
       (by (ltb (src .size) srcOffset) (E.BufferStartOffsetOverrun srcOffset (src .size) Source) _ (le-ltb (src .size) srcOffset (omega (arith, s)))
       (by (not (multiple n 4)) (E.UnalignedCopySize n) _ (multiple-by n 4 (v .size-aligned))
       (by (not (multiple srcOffset 4)) (E.UnalignedBufferOffset srcOffset) _ (multiple-by srcOffset 4 (v .src-aligned))

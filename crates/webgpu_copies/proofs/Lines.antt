@@ -2,14 +2,15 @@
 -- Assumes nothing.
 use mathlib.Core.Path.{_≡_, refl, sym, _∙_}
 use mathlib.Core.Bool.{Bool, true, false, not}
-use Prim.Native.Nat.{ℕ, _/_, _%_}
+use Prim.Native.Nat.{ℕ, _^_}
 use native.Mathlib.Omega.{arith}
 use lib.Dec.{eqb}
 use borrow.Author.Tests.{eqb-true, eq-eqb, not-false}
 use Rattle.checks.specs.Checks.{stop-if}
 use Rattle.checks.proofs.Rules.{not-no}
 use Rattle.measures.specs.declared.Extent3d.{Extent3d}
-use Rattle.flags.specs.Flags.{holds}
+use Rattle.flags.specs.Flags.{contains}
+use Rattle.flags.proofs.SingleFlags.{contains-single}
 use Rattle.formats.specs.Aspects.{chosenAspects}
 use Rattle.refusals.specs.declared.TransferError.{TransferError}
 use Rattle.refusals.specs.declared.TransferError.the-variants as E
@@ -28,15 +29,20 @@ use Rattle.selectors.specs.Selector.{selectorOf, baseOf, selectedOf, selectorCh
 use Rattle.copies.specs.Copies.{after-range, after-selector}
 use Rattle.webgpu.specs.WebGpu.{Has}
 
--- ---- a usage flag, and no contradiction that is one
+-- ---- a usage flag by its digit, and no contradiction that is one
 
-pub flag-of : (word flag : ℕ) → not (holds word flag) ≡ false → Has word flag
-unfolding holds
-flag-of word flag e = eqb-true (word / flag % 2) 1 (not-false _ e)
+module _ (word k : ℕ) where
+  pub has-of : contains word (2 ^ k) ≡ true → Has word (2 ^ k)
+  has-of e = eqb-true _ 1 (sym (contains-single word k) ∙ e)
 
-pub flag-by : (word flag : ℕ) → Has word flag → not (holds word flag) ≡ false
-unfolding holds
-flag-by word flag h = not-no _ (eq-eqb (word / flag % 2) 1 h)
+  pub has-by : Has word (2 ^ k) → contains word (2 ^ k) ≡ true
+  has-by h = contains-single word k ∙ eq-eqb _ 1 h
+
+  pub flag-of : not (contains word (2 ^ k)) ≡ false → Has word (2 ^ k)
+  flag-of e = has-of (not-false _ e)
+
+  pub flag-by : Has word (2 ^ k) → not (contains word (2 ^ k)) ≡ false
+  flag-by h = not-no _ (has-by h)
 
 pub opposite : {C : Type 0} (t : Bool) → t ≡ true → t ≡ false → C
 opposite t e f = let b : _≡_ {A = Bool} true false = sym e ∙ f in let z : _≡_ {A = ℕ} 0 1 = cc in absurd (omega arith)

@@ -10,7 +10,7 @@ use borrow.Author.Tests.{lt-leb, eqb-true, not-false}
 use Rattle.checks.specs.Checks.{stop-if}
 use Rattle.checks.proofs.Rules.{not-no, went-past, goes-past}
 use Rattle.checks.proofs.Tables.{everyBelow, at-below}
-use Rattle.flags.specs.Flags.{holds, isOne}
+use Rattle.flags.specs.Flags.{contains, isOne}
 use Rattle.formats.specs.declared.TextureAspect.{TextureAspect}
 use Rattle.formats.specs.declared.TextureAspect.the-variants.{All, StencilOnly, DepthOnly, Plane0, Plane1, Plane2}
 use Rattle.formats.specs.Sheet.{isDepthStencil}
@@ -265,8 +265,8 @@ uploaded c g =
     let t = passed (textureChecked (c .texture) Destination) _ (b .1) in
     let r = ranged (rangeChecked (c .view) (c .texture) Destination (c .size)) _ (t .1) in
     let s = selected c _ (r .3) in
-    let u = past (not (holds (c .buffer .usage .0) 4)) (E.MissingBufferUsage Source) _ (s .1) in
-    let w = past (not (holds (c .texture .usage .0) 2)) (E.MissingTextureUsage Destination) _ (u .1) in
+    let u = past (not (contains (c .buffer .usage .0) 4)) (E.MissingBufferUsage Source) _ (s .1) in
+    let w = past (not (contains (c .texture .usage .0) 2)) (E.MissingTextureUsage Destination) _ (u .1) in
     let f = passed (dstFormat (c .texture .format) (c .view .aspect)) _ (w .1) in
     let o = passed (textureBufferCopy (c .view .aspect) (chosenFor c) (c .texture) (c .layout) true) _ (f .1) in
     let l = laid (linearData (c .layout) (c .texture .format) (c .view .aspect) (c .buffer .size) Source (c .size)) _ (o .1) in
@@ -276,8 +276,8 @@ uploaded c g =
       in-texture = record-bounds .textures (c .texture) .1 (texture-kept (c .texture) Destination (t .0));
       range = (r .0, r .1, r .2);
       chosen = s .0;
-      buffer-usage = flag-of (c .buffer .usage .0) 4 (u .0);
-      texture-usage = flag-of (c .texture .usage .0) 2 (w .0);
+      buffer-usage = flag-of (c .buffer .usage .0) 2 (u .0);
+      texture-usage = flag-of (c .texture .usage .0) 1 (w .0);
       format = f .0;
       suits = o .0;
       linear = (l .0, l .1);
@@ -294,8 +294,8 @@ upload c p =
     (pass (textureChecked (c .texture) Destination) _ (texture-goes (c .texture) Destination (p .in-texture))
     (range-by (rangeChecked (c .view) (c .texture) Destination (c .size)) _ extent layers (p .range .2)
     (select c _ (p .chosen)
-    (by (not (holds (c .buffer .usage .0) 4)) (E.MissingBufferUsage Source) _ (flag-by (c .buffer .usage .0) 4 (p .buffer-usage))
-    (by (not (holds (c .texture .usage .0) 2)) (E.MissingTextureUsage Destination) _ (flag-by (c .texture .usage .0) 2 (p .texture-usage))
+    (by (not (contains (c .buffer .usage .0) 4)) (E.MissingBufferUsage Source) _ (flag-by (c .buffer .usage .0) 2 (p .buffer-usage))
+    (by (not (contains (c .texture .usage .0) 2)) (E.MissingTextureUsage Destination) _ (flag-by (c .texture .usage .0) 1 (p .texture-usage))
     (pass (dstFormat (c .texture .format) (c .view .aspect)) _ (p .format)
     (pass (textureBufferCopy (c .view .aspect) (chosenFor c) (c .texture) (c .layout) true) _ (p .suits)
     (lay (linearData (c .layout) (c .texture .format) (c .view .aspect) (c .buffer .size) Source (c .size)) _ span (p .linear .1)
@@ -309,20 +309,20 @@ downloaded c g =
     let b = passed (bufferChecked (c .buffer) Destination) _ (t .1) in
     let r = ranged (rangeChecked (c .view) (c .texture) Source (c .size)) _ (b .1) in
     let s = selected c _ (r .3) in
-    let w = past (not (holds (c .texture .usage .0) 1)) (E.MissingTextureUsage Source) _ (s .1) in
+    let w = past (not (contains (c .texture .usage .0) 1)) (E.MissingTextureUsage Source) _ (s .1) in
     let m = past (leb (c .texture .«mip_level_count») (c .view .«mip_level»)) (E.InvalidMipLevel (c .view .«mip_level») (c .texture .«mip_level_count»)) _ (w .1) in
     let f = passed (srcFormat (c .texture .format) (c .view .aspect)) _ (m .1) in
     let o = passed (textureBufferCopy (c .view .aspect) (chosenFor c) (c .texture) (c .layout) true) _ (f .1) in
     let l = laid (linearData (c .layout) (c .texture .format) (c .view .aspect) (c .buffer .size) Destination (c .size)) _ (o .1) in
     let d = past (lacksDepthFact (c .device) (c .texture .format)) (E.MissingDownlevelFlags DepthTextureAndBufferCopies) _ (l .2) in
-    let u = past (not (holds (c .buffer .usage .0) 8)) (E.MissingBufferUsage Destination) _ (d .1) in
+    let u = past (not (contains (c .buffer .usage .0) 8)) (E.MissingBufferUsage Destination) _ (d .1) in
     record {
       in-buffer = record-bounds .buffers (c .buffer) .1 (buffer-kept (c .buffer) Destination (b .0));
       in-texture = record-bounds .textures (c .texture) .1 (texture-kept (c .texture) Source (t .0));
       range = (r .0, r .1, r .2);
       chosen = s .0;
-      buffer-usage = flag-of (c .buffer .usage .0) 8 (u .0);
-      texture-usage = flag-of (c .texture .usage .0) 1 (w .0);
+      buffer-usage = flag-of (c .buffer .usage .0) 3 (u .0);
+      texture-usage = flag-of (c .texture .usage .0) 0 (w .0);
       format = f .0;
       suits = o .0;
       linear = (l .0, l .1);
@@ -339,13 +339,13 @@ download c level p =
     (pass (bufferChecked (c .buffer) Destination) _ (buffer-goes (c .buffer) Destination (p .in-buffer))
     (range-by (rangeChecked (c .view) (c .texture) Source (c .size)) _ extent layers (p .range .2)
     (select c _ (p .chosen)
-    (by (not (holds (c .texture .usage .0) 1)) (E.MissingTextureUsage Source) _ (flag-by (c .texture .usage .0) 1 (p .texture-usage))
+    (by (not (contains (c .texture .usage .0) 1)) (E.MissingTextureUsage Source) _ (flag-by (c .texture .usage .0) 0 (p .texture-usage))
     (by (leb (c .texture .«mip_level_count») (c .view .«mip_level»)) (E.InvalidMipLevel (c .view .«mip_level») (c .texture .«mip_level_count»)) _ (lt-leb (c .texture .«mip_level_count») (c .view .«mip_level») level)
     (pass (srcFormat (c .texture .format) (c .view .aspect)) _ (p .format)
     (pass (textureBufferCopy (c .view .aspect) (chosenFor c) (c .texture) (c .layout) true) _ (p .suits)
     (lay (linearData (c .layout) (c .texture .format) (c .view .aspect) (c .buffer .size) Destination (c .size)) _ span (p .linear .1)
     (by (lacksDepthFact (c .device) (c .texture .format)) (E.MissingDownlevelFlags DepthTextureAndBufferCopies) _ (p .depth-fact)
-    (by (not (holds (c .buffer .usage .0) 8)) (E.MissingBufferUsage Destination) _ (flag-by (c .buffer .usage .0) 8 (p .buffer-usage))
+    (by (not (contains (c .buffer .usage .0) 8)) (E.MissingBufferUsage Destination) _ (flag-by (c .buffer .usage .0) 3 (p .buffer-usage))
     (planOf (c .layout) (c .size) extent layers (baseFor c) span Destination (srcTextureRange (c .view) (c .texture) (c .size)), refl)))))))))))
 
 passed-by : (reads : Bool) (c : Copy) → GivesPlan (planned reads c) → Passes reads c
