@@ -7,7 +7,8 @@ use Rattle.checks.specs.Checks.{pick, stop-if, _$_}
 use Rattle.measures.specs.declared.OptionU64.{OptionU64}
 use Rattle.measures.specs.declared.OptionU64.the-variants as O
 use Rattle.measures.specs.Measure.{multiple}
-use Rattle.flags.specs.Flags.{holds}
+use Rattle.flags.specs.BufferUsages as BufferUsages
+use Rattle.flags.specs.Flags.{contains}
 use Rattle.refusals.specs.declared.CopySide.the-variants.{Source, Destination}
 use Rattle.refusals.specs.declared.DownlevelFlags.the-variants.{UnrestrictedIndexBuffer}
 use Rattle.refusals.specs.declared.TransferError.the-variants as E
@@ -45,20 +46,20 @@ bytes c = sizeOf (c .size) (c .src .size - c .src-offset)
 
 -- VERTEX, UNIFORM, INDIRECT or STORAGE
 unfoldable pub isShared : ℕ → Bool
-isShared usage = holds usage 32 || (holds usage 64 || (holds usage 256 || holds usage 128))
+isShared usage = contains usage BufferUsages.VERTEX || (contains usage BufferUsages.UNIFORM || (contains usage BufferUsages.INDIRECT || contains usage BufferUsages.STORAGE))
 
 -- without the index fact, an INDEX buffer where either buffer has one of those
 unfoldable pub lacksIndexFact : Device → ℕ → ℕ → Bool
 lacksIndexFact device src dst =
-    not (device .«unrestricted_index_buffer») && ((holds src 16 || holds dst 16) && (isShared src || isShared dst))
+    not (device .«unrestricted_index_buffer») && ((contains src BufferUsages.INDEX || contains dst BufferUsages.INDEX) && (isShared src || isShared dst))
 
 unfoldable pub copyChecks : Copy → Checks
 copyChecks c =
     flatten (bufferChecks (c .src) Source)  -- 3
     ∷ flatten (bufferChecks (c .dst) Destination)  -- 3
     ∷ refuse-if (eqb (c .src-index) (c .dst-index)) E.SameSourceDestinationBuffer  -- 4
-    ∷ refuse-if (not (holds (c .src .usage .0) 4)) (E.MissingBufferUsage Source)  -- 5
-    ∷ refuse-if (not (holds (c .dst .usage .0) 8)) (E.MissingBufferUsage Destination)  -- 5
+    ∷ refuse-if (not (contains (c .src .usage .0) BufferUsages.COPY-SRC)) (E.MissingBufferUsage Source)  -- 5
+    ∷ refuse-if (not (contains (c .dst .usage .0) BufferUsages.COPY-DST)) (E.MissingBufferUsage Destination)  -- 5
     ∷ refuse-if (ltb (c .src .size) (c .src-offset)) (E.BufferStartOffsetOverrun (c .src-offset) (c .src .size) Source)  -- 7
     ∷ refuse-if (not (multiple (bytes c) 4)) (E.UnalignedCopySize (bytes c))  -- 15
     ∷ refuse-if (not (multiple (c .src-offset) 4)) (E.UnalignedBufferOffset (c .src-offset))  -- 14

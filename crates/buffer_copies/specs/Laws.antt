@@ -3,7 +3,8 @@ use mathlib.Core.Path.{_≡_}
 use mathlib.Core.Bool.{true, false}
 use Prim.Native.Nat.{_+_, _%_, _≤_}
 use lib.Dec.{eqb}
-use Rattle.flags.specs.Flags.{holds}
+use Rattle.flags.specs.BufferUsages as BufferUsages
+use Rattle.flags.specs.Flags.{contains}
 use Rattle.records.specs.Bounds.{bufferInBounds}
 use Rattle.buffer_copies.specs.declared.BufferPlan.{BufferPlan}
 use Rattle.buffer_copies.specs.declared.BufferPlanned.the-variants as P
@@ -13,8 +14,8 @@ pub record Accepted (c : Copy) : Type 0 where
   pub src-bounds : bufferInBounds (c .src) ≡ true
   pub dst-bounds : bufferInBounds (c .dst) ≡ true
   pub different : eqb (c .src-index) (c .dst-index) ≡ false
-  pub src-usage : holds (c .src .usage .0) 4 ≡ true
-  pub dst-usage : holds (c .dst .usage .0) 8 ≡ true
+  pub src-usage : contains (c .src .usage .0) BufferUsages.COPY-SRC ≡ true
+  pub dst-usage : contains (c .dst .usage .0) BufferUsages.COPY-DST ≡ true
   pub size-aligned : bytes c % 4 ≡ 0
   pub src-aligned : c .src-offset % 4 ≡ 0
   pub dst-aligned : c .dst-offset % 4 ≡ 0

@@ -6,7 +6,8 @@ use lib.Dec.{eqb, ltb}
 use Rattle.checks.specs.Checks.{stop-if, _$_}
 use Rattle.measures.specs.declared.OptionU64.{OptionU64}
 use Rattle.measures.specs.Measure.{multiple}
-use Rattle.flags.specs.Flags.{holds}
+use Rattle.flags.specs.BufferUsages as BufferUsages
+use Rattle.flags.specs.Flags.{contains}
 use Rattle.refusals.specs.declared.CopySide.the-variants.{Source, Destination}
 use Rattle.refusals.specs.declared.DownlevelFlags.the-variants.{UnrestrictedIndexBuffer}
 use Rattle.refusals.specs.declared.TransferError.the-variants as E
@@ -40,8 +41,8 @@ sizedCopy device src srcOffset dst dstOffset size =
 abbrev pub usableCopy : Device → ℕ → Buffer → ℕ → ℕ → Buffer → ℕ → OptionU64 → BufferPlanned
 usableCopy device i src srcOffset j dst dstOffset size =
     stop-if (eqb i j) (P.Refused E.SameSourceDestinationBuffer) $
-    stop-if (not (holds (src .usage .0) 4)) (P.Refused (E.MissingBufferUsage Source)) $
-    stop-if (not (holds (dst .usage .0) 8)) (P.Refused (E.MissingBufferUsage Destination)) $
+    stop-if (not (contains (src .usage .0) BufferUsages.COPY-SRC)) (P.Refused (E.MissingBufferUsage Source)) $
+    stop-if (not (contains (dst .usage .0) BufferUsages.COPY-DST)) (P.Refused (E.MissingBufferUsage Destination)) $
     stop-if (ltb (src .size) srcOffset) (P.Refused (E.BufferStartOffsetOverrun srcOffset (src .size) Source)) $
     sizedCopy device src srcOffset dst dstOffset (sizeOf size (src .size - srcOffset))
 

@@ -3,7 +3,9 @@ use mathlib.Core.Path.{_≡_}
 use mathlib.Core.Bool.{true, false}
 use Prim.Native.Nat.{ℕ}
 use lib.Dec.{eqb}
-use Rattle.flags.specs.Flags.{holds}
+use Rattle.flags.specs.BufferUsages as BufferUsages
+use Rattle.flags.specs.TextureUsages as TextureUsages
+use Rattle.flags.specs.Flags.{contains}
 use Rattle.formats.specs.declared.TextureAspect.{TextureAspect}
 use Rattle.refusals.specs.declared.Checked.the-variants.{GoOn}
 use Rattle.refusals.specs.Order.{Checks, checked}
@@ -18,12 +20,12 @@ use Rattle.buffer_texture.specs.Plan.{aspects, dense, lacksDepthFact, pl
 
 -- what each way asks of the flags and the format
 abbrev pub bufferFlag : Direction → ℕ
-bufferFlag Upload = 4
-bufferFlag Download = 8
+bufferFlag Upload = BufferUsages.COPY-SRC
+bufferFlag Download = BufferUsages.COPY-DST
 
 abbrev pub textureFlag : Direction → ℕ
-textureFlag Upload = 2
-textureFlag Download = 1
+textureFlag Upload = TextureUsages.COPY-DST
+textureFlag Download = TextureUsages.COPY-SRC
 
 abbrev pub formatChecks : Direction → ℕ → TextureAspect → Checks
 formatChecks Upload format aspect = dstFormatChecks format aspect
@@ -34,8 +36,8 @@ pub record Accepted (c : Copy) : Type 0 where
   pub texture-bounds : textureInBounds (c .texture) ≡ true
   pub range : RangeLaws (c .view) (c .texture) (c .size)
   pub chosen : eqb (aspects c) 0 ≡ false
-  pub buffer-usage : holds (c .buffer .usage .0) (bufferFlag (c .direction)) ≡ true
-  pub texture-usage : holds (c .texture .usage .0) (textureFlag (c .direction)) ≡ true
+  pub buffer-usage : contains (c .buffer .usage .0) (bufferFlag (c .direction)) ≡ true
+  pub texture-usage : contains (c .texture .usage .0) (textureFlag (c .direction)) ≡ true
   pub format : checked (formatChecks (c .direction) (c .texture .format) (c .view .aspect)) ≡ GoOn
   pub layout : checked (layoutChecks (c .view .aspect) (aspects c) (c .texture) (c .layout) true) ≡ GoOn
   pub linear : LinearLaws (c .layout) (c .buffer .size) (dense c)

@@ -4,7 +4,9 @@ use mathlib.Core.Bool.{Bool, true, _&&_, not}
 use mathlib.Core.List.{[], _∷_, flatten}
 use lib.Dec.{leb}
 use Rattle.measures.specs.declared.Extent3d.{Extent3d}
-use Rattle.flags.specs.Flags.{holds}
+use Rattle.flags.specs.BufferUsages as BufferUsages
+use Rattle.flags.specs.TextureUsages as TextureUsages
+use Rattle.flags.specs.Flags.{contains}
 use Rattle.formats.specs.Sheet.{isDepthStencil}
 use Rattle.formats.specs.Aspects.{chosenAspects}
 use Rattle.refusals.specs.declared.CopySide.{CopySide}
@@ -52,8 +54,8 @@ uploadChecks c =
     ∷ flatten (textureChecks (c .texture) Destination)  -- 2
     ∷ flatten (rangeChecks (c .view) (c .texture) Destination (c .size))  -- module 3
     ∷ flatten (selectorChecks (c .view) (c .texture))  -- 12
-    ∷ refuse-if (not (holds (c .buffer .usage .0) 4)) (E.MissingBufferUsage Source)  -- 5
-    ∷ refuse-if (not (holds (c .texture .usage .0) 2)) (E.MissingTextureUsage Destination)  -- 6
+    ∷ refuse-if (not (contains (c .buffer .usage .0) BufferUsages.COPY-SRC)) (E.MissingBufferUsage Source)  -- 5
+    ∷ refuse-if (not (contains (c .texture .usage .0) TextureUsages.COPY-DST)) (E.MissingTextureUsage Destination)  -- 6
     ∷ flatten (dstFormatChecks (c .texture .format) (c .view .aspect))  -- 31 or 32
     ∷ flatten (layoutChecks (c .view .aspect) (aspects c) (c .texture) (c .layout) true)  -- 35; 28; 14; 20
     ∷ flatten (linearChecks (c .layout) (c .buffer .size) Source (dense c))  -- module 4
@@ -67,13 +69,13 @@ downloadChecks c =
     ∷ flatten (bufferChecks (c .buffer) Destination)  -- 3
     ∷ flatten (rangeChecks (c .view) (c .texture) Source (c .size))  -- module 3
     ∷ flatten (selectorChecks (c .view) (c .texture))  -- 12
-    ∷ refuse-if (not (holds (c .texture .usage .0) 1)) (E.MissingTextureUsage Source)  -- 6
+    ∷ refuse-if (not (contains (c .texture .usage .0) TextureUsages.COPY-SRC)) (E.MissingTextureUsage Source)  -- 6
     ∷ refuse-if (leb (c .texture .«mip_level_count») (c .view .«mip_level»)) (E.InvalidMipLevel (c .view .«mip_level») (c .texture .«mip_level_count»))  -- 37
     ∷ flatten (srcFormatChecks (c .texture .format) (c .view .aspect))  -- 29 or 30
     ∷ flatten (layoutChecks (c .view .aspect) (aspects c) (c .texture) (c .layout) true)  -- 35; 28; 14; 20
     ∷ flatten (linearChecks (c .layout) (c .buffer .size) Destination (dense c))  -- module 4
     ∷ refuse-if (lacksDepthFact (c .device) (c .texture .format)) (E.MissingDownlevelFlags DepthTextureAndBufferCopies)  -- 34
-    ∷ refuse-if (not (holds (c .buffer .usage .0) 8)) (E.MissingBufferUsage Destination)  -- 5
+    ∷ refuse-if (not (contains (c .buffer .usage .0) BufferUsages.COPY-DST)) (E.MissingBufferUsage Destination)  -- 5
     ∷ []
 
 abbrev pub checksOf : Direction → Copy → Checks

@@ -5,7 +5,9 @@ use mathlib.Core.Bool.{true, not}
 use lib.Dec.{leb}
 use Rattle.checks.specs.Checks.{stop-if, _$_}
 use Rattle.measures.specs.declared.Extent3d.{Extent3d}
-use Rattle.flags.specs.Flags.{holds}
+use Rattle.flags.specs.BufferUsages as BufferUsages
+use Rattle.flags.specs.TextureUsages as TextureUsages
+use Rattle.flags.specs.Flags.{contains}
 use Rattle.refusals.specs.declared.CopySide.the-variants.{Source, Destination}
 use Rattle.refusals.specs.declared.DownlevelFlags.the-variants.{DepthTextureAndBufferCopies}
 use Rattle.refusals.specs.declared.TransferError.the-variants as E
@@ -41,8 +43,8 @@ uploadPlaced device b layout t view size extent layers base =
 -- 5; 6; 31 or 32; 35; 28; 14; 20
 unfoldable pub uploadAllowed : Device → Buffer → TexelCopyBufferLayout → Texture → TexelCopyTextureInfo → Extent3d → CopyExtent → ℕ → TextureCopyBase → BufferTexturePlanned
 uploadAllowed device b layout t view size extent layers base =
-    stop-if (not (holds (b .usage .0) 4)) (P.Refused (E.MissingBufferUsage Source)) $
-    stop-if (not (holds (t .usage .0) 2)) (P.Refused (E.MissingTextureUsage Destination)) $
+    stop-if (not (contains (b .usage .0) BufferUsages.COPY-SRC)) (P.Refused (E.MissingBufferUsage Source)) $
+    stop-if (not (contains (t .usage .0) TextureUsages.COPY-DST)) (P.Refused (E.MissingTextureUsage Destination)) $
     after (checked (dstFormatChecks (t .format) (view .aspect))) P.Refused $
     after (checked (layoutChecks (view .aspect) (base .aspect .0) t layout true)) P.Refused $
     uploadPlaced device b layout t view size extent layers base
@@ -68,13 +70,13 @@ unfoldable pub downloadPlaced : Device → Buffer → TexelCopyBufferLayout → 
 downloadPlaced device b layout t view size extent layers base =
     after-linear (linearChecked layout (t .format) (view .aspect) (b .size) Destination size) P.Refused λ span.
     stop-if (lacksDepthFact device (t .format)) (P.Refused (E.MissingDownlevelFlags DepthTextureAndBufferCopies)) $
-    stop-if (not (holds (b .usage .0) 8)) (P.Refused (E.MissingBufferUsage Destination)) $
+    stop-if (not (contains (b .usage .0) BufferUsages.COPY-DST)) (P.Refused (E.MissingBufferUsage Destination)) $
     P.Plan (planOf layout size extent layers base span Destination (srcTextureRange view t size))
 
 -- 6; 37; 29 or 30; 35; 28; 14; 20
 unfoldable pub downloadAllowed : Device → Buffer → TexelCopyBufferLayout → Texture → TexelCopyTextureInfo → Extent3d → CopyExtent → ℕ → TextureCopyBase → BufferTexturePlanned
 downloadAllowed device b layout t view size extent layers base =
-    stop-if (not (holds (t .usage .0) 1)) (P.Refused (E.MissingTextureUsage Source)) $
+    stop-if (not (contains (t .usage .0) TextureUsages.COPY-SRC)) (P.Refused (E.MissingTextureUsage Source)) $
     stop-if (leb (t .«mip_level_count») (view .«mip_level»)) (P.Refused (E.InvalidMipLevel (view .«mip_level») (t .«mip_level_count»))) $
     after (checked (srcFormatChecks (t .format) (view .aspect))) P.Refused $
     after (checked (layoutChecks (view .aspect) (base .aspect .0) t layout true)) P.Refused $

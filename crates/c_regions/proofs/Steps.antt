@@ -9,7 +9,7 @@ use borrow.Author.Tests.{ne-eqb}
 use lib.Dec.{eqb}
 use lib.ListN.{drop}
 use Rattle.checks.specs.Checks.{stop-if}
-use Rattle.formats.specs.Sheet.{DEPTH, STENCIL, PLANE-0}
+use Rattle.flags.specs.FormatAspects.{DEPTH, STENCIL, PLANE-0}
 use Rattle.rows.specs.Rows.{bufferCopyNumbers, bufferTextureCopyNumbers, textureCopyNumbers}
 use Rattle.selectors.specs.Selector.{nextLayer}
 use Rattle.buffer_copies.specs.BufferCopies as K

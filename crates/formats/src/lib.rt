@@ -1,6 +1,7 @@
 // The texture formats by their numbers: blocks, bytes, aspects, planes and srgb pairs.
 ghost use mathlib.Core.Path.{_≡_};
 ghost use mathlib.Core.Bool.{true};
+ghost use Rattle.flags.specs.FormatAspects.{COLOR};
 ghost use Rattle.measures.specs.Measure.{orElse};
 ghost use Rattle.formats.specs.Sheet.{color as colorRow, depthStencil, planar as planarRow, rowOf, isFormat, blockWidth, blockHeight, aspectsOf, isDepthStencil, isCombinedDepthStencil, removeSrgb, isMultiPlanar};
 ghost use Rattle.formats.specs.Aspects.{askedOf, chosenAspects, bytesOf, blockCopySize, planeFormat, aspectSpecificFormat, subsamplingFactor};
@@ -29,7 +30,7 @@ pub const DEPTH32_FLOAT_STENCIL8: u32 = 20;
 
 const NV12: u32 = 21;
 
-const PLANES: FormatAspects = FormatAspects(24);
+const PLANES: FormatAspects = FormatAspects(FormatAspects::PLANE_0.0 | FormatAspects::PLANE_1.0);
 
 // What a copy asks for of a texture.
 pub enum TextureAspect {
@@ -242,7 +243,7 @@ fn bytes_of(format: u32, aspects: FormatAspects) -> u32
 }
 
 fn is_color(aspects: FormatAspects, asked: TextureAspect) -> bool
-    ensures { λ r. ⌜ (r ≡ true → askedOf (aspects .0) asked ≡ 1) ⌝ }
+    ensures { λ r. ⌜ (r ≡ true → askedOf (aspects .0) asked ≡ COLOR) ⌝ }
 {
     match asked {
         TextureAspect::All => aspects.0 == FormatAspects::COLOR.0,

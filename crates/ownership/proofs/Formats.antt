@@ -9,7 +9,7 @@ use Rattle.checks.specs.Checks.{stop-if}
 use Rattle.checks.proofs.Rules.{both-true}
 use Rattle.checks.proofs.Tables.{everyBelow, at-below}
 use Rattle.measures.specs.Measure.{orElse}
-use Rattle.flags.specs.Flags.{holds, met, isOne}
+use Rattle.flags.specs.Flags.{meet, isOne}
 use Rattle.formats.specs.declared.TextureAspect.{TextureAspect}
 use Rattle.formats.specs.declared.TextureAspect.the-variants.{All, StencilOnly, DepthOnly, Plane0, Plane1, Plane2}
 use Rattle.formats.specs.Sheet.{rowOf, aspectsOf, blockWidth, blockHeight, isFormat}
@@ -45,7 +45,7 @@ alike d aspect format =
     && (not (copyable d aspect format) || (eqb (blockBytes format aspect) (bytesPerBlock format aspect) && ltb 0 (bytesPerBlock format aspect))))))
 
 all-alike : (d : Direction) (aspect : TextureAspect) → everyBelow (alike d aspect) 22 ≡ true
-unfolding alike copyable goesB sheet.formats rowOf aspectsOf blockWidth blockHeight askedOf chosenAspects bytesOf blockCopySize blockBytes orElse met holds isOne stop-if refuse-if first decided srcFormatChecks dstFormatChecks isDepthOnly formats blockSide isAll chosenBits bytesPerBlock
+unfolding alike copyable goesB sheet.formats rowOf aspectsOf blockWidth blockHeight askedOf chosenAspects bytesOf blockCopySize blockBytes orElse meet isOne stop-if refuse-if first decided srcFormatChecks dstFormatChecks isDepthOnly formats blockSide isAll chosenBits bytesPerBlock
 all-alike Upload All = refl
 all-alike Upload StencilOnly = refl
 all-alike Upload DepthOnly = refl

@@ -12,7 +12,7 @@ use Rattle.checks.specs.Checks.{pick, every}
 use Rattle.checks.proofs.Rules.{AllTrue, all-true}
 use Rattle.checks.proofs.Tables.{at-each}
 use Rattle.measures.specs.declared.Extent3d.{Extent3d}
-use Rattle.flags.specs.Flags.{holds, met}
+use Rattle.flags.specs.Flags.{meet}
 use Rattle.levels.specs.declared.TextureDimension.{TextureDimension}
 use Rattle.levels.specs.declared.TextureDimension.the-variants.{D1, D2, D3}
 use Rattle.levels.specs.Level.{dimensionOf}
@@ -40,7 +40,7 @@ abbrev fewBits : FormatRow → Bool
 fewBits row = every (map (λ (a : TextureAspect). ltb (askedOf (row .aspects .0) a) 64) asked)
 
 every-row : (format : ℕ) → fewBits (rowOf format) ≡ true
-unfolding rowOf formats askedOf met holds
+unfolding rowOf formats askedOf meet
 every-row format = at-each fewBits formats unknown refl refl format
 
 pub aspects-few : (format : ℕ) (a : TextureAspect) → chosenAspects format a < 64

@@ -9,7 +9,7 @@ use borrow.Author.Tests.{not-false}
 use Rattle.checks.specs.Checks.{stop-if}
 use Rattle.checks.proofs.Rules.{went-past}
 use Rattle.measures.specs.declared.Extent3d.{Extent3d}
-use Rattle.flags.specs.Flags.{holds}
+use Rattle.flags.specs.Flags.{contains}
 use Rattle.formats.specs.Sheet.{aspectsOf}
 use Rattle.formats.specs.Aspects.{chosenAspects}
 use Rattle.refusals.specs.declared.CopySide.{CopySide}
@@ -135,8 +135,8 @@ checks-of i j c p h =
     let m = past p (not split && not (eqb (a .1 .aspect .0) (aspectsOf (src .texture .format)))) E.CopySrcMissingAspects _ (b .3) in
     let n = past p (not (eqb (b .1 .aspect .0) (aspectsOf (dst .texture .format)))) E.CopyDstMissingAspects _ (m .1) in
     let q = past p (not (eqb (src .texture .«sample_count») (dst .texture .«sample_count»))) (E.SampleCountNotEqual (src .texture .«sample_count») (dst .texture .«sample_count»)) _ (n .1) in
-    let u = past p (not (holds (src .texture .usage .0) 1)) (E.MissingTextureUsage Source) _ (q .1) in
-    let w = past p (not (holds (dst .texture .usage .0) 2)) (E.MissingTextureUsage Destination) _ (u .1) in
+    let u = past p (not (contains (src .texture .usage .0) 1)) (E.MissingTextureUsage Source) _ (q .1) in
+    let w = past p (not (contains (dst .texture .usage .0) 2)) (E.MissingTextureUsage Destination) _ (u .1) in
     let src-range = every-range (src .view) (src .texture) Source size .went-on (from .0) (from .1) (from .2) in
     let dst-range = every-range (dst .view) (dst .texture) Destination size .went-on (to .0) (to .1) (to .2) in
     let src-base = base-of src size (a .0) (a .1) (a .2) in

@@ -11,7 +11,7 @@ use borrow.Author.Tests.{eqb-true, ltb-true, not-false}
 use Rattle.checks.specs.Checks.{stop-if}
 use Rattle.checks.proofs.Rules.{both-true, either}
 use Rattle.checks.proofs.Tables.{everyBelow, at-below}
-use Rattle.flags.specs.Flags.{holds, met}
+use Rattle.flags.specs.Flags.{meet}
 use Rattle.levels.specs.declared.TextureDimension.{TextureDimension}
 use Rattle.levels.specs.declared.TextureDimension.the-variants.{D1, D2, D3}
 use Rattle.levels.specs.Level.{dimensionOf}
@@ -73,7 +73,7 @@ sameBits : TextureAspect → ℕ → Bool
 sameBits asked format = eqb (chosenAspects format asked) (chosen asked (formatBits format))
 
 all-same : (asked : TextureAspect) → everyBelow (sameBits asked) 22 ≡ true
-unfolding sameBits chosenAspects askedOf aspectsOf rowOf formats met holds chosen formatBits isAsked
+unfolding sameBits chosenAspects askedOf aspectsOf rowOf formats meet chosen formatBits isAsked
 all-same All = refl
 all-same StencilOnly = refl
 all-same DepthOnly = refl

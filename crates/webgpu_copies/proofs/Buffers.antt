@@ -9,7 +9,7 @@ use borrow.Author.Tests.{not-true}
 use Rattle.checks.proofs.Rules.{both-true, either}
 use Rattle.measures.specs.declared.OptionU64.{OptionU64}
 use Rattle.measures.specs.declared.OptionU64.the-variants as O
-use Rattle.flags.specs.Flags.{holds}
+use Rattle.flags.specs.Flags.{contains}
 use Rattle.records.specs.declared.Buffer.{Buffer}
 use Rattle.records.specs.declared.Device.{Device}
 use Rattle.records.specs.Bounds.{bufferInBounds}
@@ -19,7 +19,7 @@ use Rattle.buffer_copies.proofs.Accepted.{every-copy-law}
 use Rattle.webgpu.specs.WebGpu.{Has, copySizeOf, CopyBufferToBuffer}
 use Rattle.webgpu_copies.specs.Bounds.{BufferInBounds}
 use Rattle.webgpu_copies.specs.WholeCopies.{Shared, IndexRestricted, BuffersExcepted, BufferToBuffer}
-use Rattle.webgpu_copies.proofs.Lines.{has, holding, opposite, tested}
+use Rattle.webgpu_copies.proofs.Lines.{has-of, has-by, opposite, tested}
 use Rattle.webgpu_copies.proofs.Records.{record-bounds}
 
 pub buffer-bounds : (b : Buffer) → ((BufferInBounds b → ⊥) → ⊥) → bufferInBounds b ≡ true
@@ -44,23 +44,23 @@ shared-of : (b : Buffer) → isShared (b .usage .0) ≡ true → Shared b
 unfolding isShared
 shared-of b e =
     let u = b .usage .0 in
-    ⊎-elim (λ h. inl (has u 32 h)) (λ r.
-    ⊎-elim (λ h. inr (inl (has u 64 h))) (λ r.
-    ⊎-elim (λ h. inr (inr (inl (has u 256 h)))) (λ h. inr (inr (inr (has u 128 h))))
-    (either (holds u 256) (holds u 128) r))
-    (either (holds u 64) _ r))
-    (either (holds u 32) _ e)
+    ⊎-elim (λ h. inl (has-of u 5 h)) (λ r.
+    ⊎-elim (λ h. inr (inl (has-of u 6 h))) (λ r.
+    ⊎-elim (λ h. inr (inr (inl (has-of u 8 h)))) (λ h. inr (inr (inr (has-of u 7 h))))
+    (either (contains u 256) (contains u 128) r))
+    (either (contains u 64) _ r))
+    (either (contains u 32) _ e)
 
 shared-by : (b : Buffer) → Shared b → isShared (b .usage .0) ≡ true
 unfolding isShared
-shared-by b (inl h) = or-left (holds (b .usage .0) 32) _ (holding _ 32 h)
-shared-by b (inr (inl h)) = or-right (holds (b .usage .0) 32) _ (or-left (holds (b .usage .0) 64) _ (holding _ 64 h))
-shared-by b (inr (inr (inl h))) = or-right (holds (b .usage .0) 32) _ (or-right (holds (b .usage .0) 64) _ (or-left (holds (b .usage .0) 256) _ (holding _ 256 h)))
-shared-by b (inr (inr (inr h))) = or-right (holds (b .usage .0) 32) _ (or-right (holds (b .usage .0) 64) _ (or-right (holds (b .usage .0) 256) _ (holding _ 128 h)))
+shared-by b (inl h) = or-left (contains (b .usage .0) 32) _ (has-by _ 5 h)
+shared-by b (inr (inl h)) = or-right (contains (b .usage .0) 32) _ (or-left (contains (b .usage .0) 64) _ (has-by _ 6 h))
+shared-by b (inr (inr (inl h))) = or-right (contains (b .usage .0) 32) _ (or-right (contains (b .usage .0) 64) _ (or-left (contains (b .usage .0) 256) _ (has-by _ 8 h)))
+shared-by b (inr (inr (inr h))) = or-right (contains (b .usage .0) 32) _ (or-right (contains (b .usage .0) 64) _ (or-right (contains (b .usage .0) 256) _ (has-by _ 7 h)))
 
 module _ (device : Device) (src dst : Buffer) where
   abbrev indexed : Bool
-  indexed = holds (src .usage .0) 16 || holds (dst .usage .0) 16
+  indexed = contains (src .usage .0) 16 || contains (dst .usage .0) 16
 
   abbrev shares : Bool
   shares = isShared (src .usage .0) || isShared (dst .usage .0)
@@ -72,7 +72,7 @@ module _ (device : Device) (src dst : Buffer) where
       let q = both-true indexed shares (p .1) in
       record {
         fact = not-true _ (p .0);
-        index = ⊎-elim (λ h. inl (has _ 16 h)) (λ h. inr (has _ 16 h)) (either (holds (src .usage .0) 16) _ (q .0));
+        index = ⊎-elim (λ h. inl (has-of _ 4 h)) (λ h. inr (has-of _ 4 h)) (either (contains (src .usage .0) 16) _ (q .0));
         shared = ⊎-elim (λ h. inl (shared-of src h)) (λ h. inr (shared-of dst h)) (either (isShared (src .usage .0)) _ (q .1));
       }
 
@@ -81,8 +81,8 @@ module _ (device : Device) (src dst : Buffer) where
   restricted-by r = rw (r .fact, index (r .index)) (shared (r .shared))
     where
       index : Has (src .usage .0) 16 ⊎ Has (dst .usage .0) 16 → indexed ≡ true
-      index (inl h) = or-left (holds (src .usage .0) 16) _ (holding _ 16 h)
-      index (inr h) = or-right (holds (src .usage .0) 16) _ (holding _ 16 h)
+      index (inl h) = or-left (contains (src .usage .0) 16) _ (has-by _ 4 h)
+      index (inr h) = or-right (contains (src .usage .0) 16) _ (has-by _ 4 h)
 
       shared : Shared src ⊎ Shared dst → shares ≡ true
       shared (inl h) = or-left (isShared (src .usage .0)) _ (shared-by src h)
@@ -108,8 +108,8 @@ module _ (device : Device) (i j : ℕ) (src dst : Buffer) (srcOffset dstOffset :
   rules-of a =
       record {
         different = a .different;
-        src-usage = has (src .usage .0) 4 (a .src-usage);
-        dst-usage = has (dst .usage .0) 8 (a .dst-usage);
+        src-usage = has-of (src .usage .0) 2 (a .src-usage);
+        dst-usage = has-of (dst .usage .0) 3 (a .dst-usage);
         size-aligned = a .size-aligned;
         src-aligned = a .src-aligned;
         dst-aligned = a .dst-aligned;
@@ -128,8 +128,8 @@ module _ (device : Device) (i j : ℕ) (src dst : Buffer) (srcOffset dstOffset :
         src-bounds = buffer-bounds src (λ x. kept (inl x));
         dst-bounds = buffer-bounds dst (λ x. kept (inr (inl x)));
         different = v .different;
-        src-usage = holding (src .usage .0) 4 (v .src-usage);
-        dst-usage = holding (dst .usage .0) 8 (v .dst-usage);
+        src-usage = has-by (src .usage .0) 2 (v .src-usage);
+        dst-usage = has-by (dst .usage .0) 3 (v .dst-usage);
         size-aligned = v .size-aligned;
         src-aligned = v .src-aligned;
         dst-aligned = v .dst-aligned;

@@ -2,21 +2,20 @@
 -- Assumes nothing.
 use mathlib.Core.Path.{_≡_, refl, sym, _∙_}
 use mathlib.Core.Bool.{Bool, true, false}
-use Prim.Native.Nat.{ℕ, _/_, _%_}
+use Prim.Native.Nat.{ℕ, _^_}
 use native.Mathlib.Omega.{arith}
-use lib.Dec.{eqb}
 use borrow.Author.Tests.{eqb-true, eq-eqb}
-use Rattle.flags.specs.Flags.{holds}
+use Rattle.flags.specs.Flags.{contains}
+use Rattle.flags.proofs.SingleFlags.{contains-single}
 use Rattle.webgpu.specs.WebGpu.{Has}
 
--- a usage flag
-pub has : (word flag : ℕ) → holds word flag ≡ true → Has word flag
-unfolding holds
-has word flag e = eqb-true (word / flag % 2) 1 e
+-- a usage flag by its digit
+module _ (word k : ℕ) where
+  pub has-of : contains word (2 ^ k) ≡ true → Has word (2 ^ k)
+  has-of e = eqb-true _ 1 (sym (contains-single word k) ∙ e)
 
-pub holding : (word flag : ℕ) → Has word flag → holds word flag ≡ true
-unfolding holds
-holding word flag h = eq-eqb (word / flag % 2) 1 h
+  pub has-by : Has word (2 ^ k) → contains word (2 ^ k) ≡ true
+  has-by h = contains-single word k ∙ eq-eqb _ 1 h
 
 pub opposite : {C : Type 0} (t : Bool) → t ≡ true → t ≡ false → C
 opposite t e f = let b : _≡_ {A = Bool} true false = sym e ∙ f in let z : _≡_ {A = ℕ} 0 1 = cc in absurd (omega arith)

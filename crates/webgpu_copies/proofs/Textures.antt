@@ -8,7 +8,7 @@ use native.Mathlib.Omega.{arith}
 use lib.Dec.{eqb}
 use borrow.Author.Tests.{eqb-true}
 use Rattle.checks.proofs.Tables.{everyBelow, at-below}
-use Rattle.flags.specs.Flags.{isOne}
+use Rattle.flags.specs.Flags.{contains, isOne}
 use Rattle.formats.specs.declared.TextureAspect.{TextureAspect}
 use Rattle.formats.specs.declared.TextureAspect.the-variants.{All, StencilOnly, DepthOnly, Plane0, Plane1, Plane2}
 use Rattle.formats.specs.Sheet.{isDepthStencil}
@@ -31,7 +31,7 @@ use Rattle.buffer_texture.specs.Plan as planner
 use Rattle.buffer_texture.specs.Laws.{bufferFlag, textureFlag, formatChecks, Accepted}
 use Rattle.buffer_texture.proofs.Accepted.{every-copy-law, as-uploaded, as-downloaded}
 use Rattle.webgpu.specs.Formats.{Color, names, formats, Known, formatOf, anyDepthOrStencil, isDepthOrStencil, named}
-use Rattle.webgpu.specs.WebGpu.{BUFFER-COPY-SRC, BUFFER-COPY-DST, TEXTURE-COPY-SRC, TEXTURE-COPY-DST, Reading, WithLayers, OneLayer, TexelCopyTexture}
+use Rattle.webgpu.specs.WebGpu.{Has, BUFFER-COPY-SRC, BUFFER-COPY-DST, TEXTURE-COPY-SRC, TEXTURE-COPY-DST, Reading, WithLayers, OneLayer, TexelCopyTexture}
 use Rattle.webgpu.specs.Agreement.{bits, GoesOn, InStandard, LinearAgreement, formatRule}
 use Rattle.webgpu.proofs.Rows.{below, row-of}
 use Rattle.webgpu.proofs.TextureRanges.{Excepted, ranges-by, no-layers-left}
@@ -39,7 +39,7 @@ use Rattle.webgpu.proofs.Linears.{linear-rules}
 use Rattle.webgpu.proofs.BufferCopies.{or-rest, one-aspect, buffer-copies}
 use Rattle.webgpu_copies.specs.Bounds.{TextureInBounds}
 use Rattle.webgpu_copies.specs.WholeCopies.{plannedBy, planned, reads, GivesPlan, StandardCopy, Compared, DepthRestricted, AspectLacking, CopyExcepted, BufferTexture, BufferTextureWithLayers}
-use Rattle.webgpu_copies.proofs.Lines.{has, holding, opposite, tested}
+use Rattle.webgpu_copies.proofs.Lines.{has-of, has-by, opposite, tested}
 use Rattle.webgpu_copies.proofs.Records.{record-bounds}
 use Rattle.webgpu_copies.proofs.Buffers.{buffer-bounds}
 use Rattle.webgpu_copies.proofs.Small.{figures-of}
@@ -122,13 +122,21 @@ textureSide Upload = Destination
 textureSide Download = Source
 
 -- the standard's words for the flags and the rule of formats
-buffer-flag : (d : Direction) → cond (reads d) BUFFER-COPY-DST BUFFER-COPY-SRC ≡ bufferFlag d
-buffer-flag Upload = refl
-buffer-flag Download = refl
+buffer-has : (d : Direction) (word : ℕ) → contains word (bufferFlag d) ≡ true → Has word (cond (reads d) BUFFER-COPY-DST BUFFER-COPY-SRC)
+buffer-has Upload word h = has-of word 2 h
+buffer-has Download word h = has-of word 3 h
 
-texture-flag : (d : Direction) → cond (reads d) TEXTURE-COPY-SRC TEXTURE-COPY-DST ≡ textureFlag d
-texture-flag Upload = refl
-texture-flag Download = refl
+buffer-by : (d : Direction) (word : ℕ) → Has word (cond (reads d) BUFFER-COPY-DST BUFFER-COPY-SRC) → contains word (bufferFlag d) ≡ true
+buffer-by Upload word h = has-by word 2 h
+buffer-by Download word h = has-by word 3 h
+
+texture-has : (d : Direction) (word : ℕ) → contains word (textureFlag d) ≡ true → Has word (cond (reads d) TEXTURE-COPY-SRC TEXTURE-COPY-DST)
+texture-has Upload word h = has-of word 1 h
+texture-has Download word h = has-of word 0 h
+
+texture-by : (d : Direction) (word : ℕ) → Has word (cond (reads d) TEXTURE-COPY-SRC TEXTURE-COPY-DST) → contains word (textureFlag d) ≡ true
+texture-by Upload word h = has-by word 1 h
+texture-by Download word h = has-by word 0 h
 
 rule-is : (d : Direction) (format : ℕ) (aspect : TextureAspect) → formatRule (reads d) format aspect ≡ checked (formatChecks d format aspect)
 rule-is Upload format aspect = refl
@@ -174,8 +182,8 @@ module _ (reading : Reading) (c : Copy) (r : Compared c) (kept : CopyExcepted c 
       let suits : rules (bits (named (formatOf f) a)) = rw (← chosen-is) (p .layout) in
       let format = rule-is way f a ∙ p .format in
       record {
-        buffer-usage = rw (buffer-flag way) (has (c .buffer .usage .0) (bufferFlag way) (p .buffer-usage));
-        texture-usage = rw (texture-flag way) (has (c .texture .usage .0) (textureFlag way) (p .texture-usage));
+        buffer-usage = buffer-has way (c .buffer .usage .0) (p .buffer-usage);
+        texture-usage = texture-has way (c .texture .usage .0) (p .texture-usage);
         view-valid = view;
         suits = buffer-copies (reads way) true (c .texture) a (c .layout) suited .0 (format, suits);
         linear = linear-rule view .holds _ (linear-goes (c .layout) f a (c .buffer .size) (bufferSide way) (c .size) (small (c .buffer) in-buffer) (p .linear)) .0;
@@ -187,15 +195,13 @@ module _ (reading : Reading) (c : Copy) (r : Compared c) (kept : CopyExcepted c 
       let one = one-aspect (reads way) true (c .texture) a (c .layout) suited (v .suits) in
       let g = ranges .1 (v .view-valid) in
       let l = linear-rule (v .view-valid) .goes-on (v .linear) in
-      let b = v .buffer-usage in
-      let t = v .texture-usage in
       record {
         buffer-bounds = in-buffer;
         texture-bounds = in-texture;
         range = range-went (c .view) (c .texture) (textureSide way) (c .size) (g .0) (g .1) (g .2) .0;
         chosen = rw chosen-is (one-not-none _ one);
-        buffer-usage = holding (c .buffer .usage .0) (bufferFlag way) (rw (buffer-flag way) at b);
-        texture-usage = holding (c .texture .usage .0) (textureFlag way) (rw (texture-flag way) at t);
+        buffer-usage = buffer-by way (c .buffer .usage .0) (v .buffer-usage);
+        texture-usage = texture-by way (c .texture .usage .0) (v .texture-usage);
         format = sym (rule-is way f a) ∙ rules .0;
         layout = rw chosen-is (rules .1);
         linear = linear-went (c .layout) f a (c .buffer .size) (bufferSide way) (c .size) (l .0) (l .1) .0;
