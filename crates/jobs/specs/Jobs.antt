@@ -10,7 +10,7 @@ use Rattle.refusals.specs.declared.TransferError.the-variants.{InvalidSheetInde
 use Rattle.records.specs.declared.Buffer.{Buffer}
 use Rattle.records.specs.declared.Device.{Device}
 use Rattle.records.specs.declared.Texture.{Texture}
-use Rattle.texture_plans.specs.declared.TextureSide.{TextureSide}
+use Rattle.records.specs.declared.TextureSide.{TextureSide}
 use Rattle.requests.specs.declared.BufferTextureRequest.{BufferTextureRequest}
 use Rattle.requests.specs.declared.Request.{Request}
 use Rattle.requests.specs.declared.Request.the-variants as Q

@@ -8,13 +8,13 @@ use fields::Line;
 use records::Buffer;
 use records::Device;
 use records::Texture;
+use records::TextureSide;
 use refusals::TransferError;
 use requests::BufferRequest;
 use requests::BufferTextureRequest;
 use requests::Planned;
 use requests::Request;
 use requests::TextureRequest;
-use texture_plans::TextureSide;
 
 fn is_past(places: &[usize], l: Line, i: usize) -> bool
     requires { ⌜ i < 16 ⌝ }

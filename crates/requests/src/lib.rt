@@ -21,11 +21,11 @@ use records::Device;
 use records::TexelCopyBufferLayout;
 use records::TexelCopyTextureInfo;
 use records::Texture;
+use records::TextureSide;
 use refusals::TransferError;
 use texture_copies::TexturePlanned;
 use texture_plans::TexturePlan;
 use texture_plans::TextureRanges;
-use texture_plans::TextureSide;
 
 // A copy between buffers, which are told apart by their indices.
 pub struct BufferRequest {

@@ -17,6 +17,7 @@ use ranges::CopyExtent;
 use ranges::RangeChecked;
 use ranges::Subject;
 use records::Texture;
+use records::TextureSide;
 use refusals::Checked;
 use refusals::CopySide;
 use refusals::TextureErrorDimension;
@@ -24,7 +25,6 @@ use refusals::TransferError;
 use selectors::SelectorChecked;
 use selectors::TextureCopyBase;
 use texture_plans::TexturePlan;
-use texture_plans::TextureSide;
 
 pub enum TexturePlanned {
     Plan(TexturePlan),

@@ -13,13 +13,13 @@ use Rattle.records.specs.declared.Device.{Device}
 use Rattle.records.specs.declared.Texture.{Texture}
 use Rattle.records.specs.declared.TexelCopyTextureInfo.{TexelCopyTextureInfo}
 use Rattle.records.specs.declared.TexelCopyBufferLayout.{TexelCopyBufferLayout}
+use Rattle.records.specs.declared.TextureSide.{TextureSide}
 use Rattle.buffer_copies.specs.declared.BufferPlan.{BufferPlan}
 use Rattle.buffer_copies.specs.declared.BufferPlanned.{BufferPlanned}
 use Rattle.buffer_copies.specs.declared.BufferPlanned.the-variants as B
 use Rattle.buffer_texture_plans.specs.declared.BufferTexturePlan.{BufferTexturePlan}
 use Rattle.buffer_texture.specs.declared.BufferTexturePlanned.{BufferTexturePlanned}
 use Rattle.buffer_texture.specs.declared.BufferTexturePlanned.the-variants as T
-use Rattle.texture_plans.specs.declared.TextureSide.{TextureSide}
 use Rattle.texture_plans.specs.declared.TexturePlan.{TexturePlan}
 use Rattle.texture_copies.specs.declared.TexturePlanned.{TexturePlanned}
 use Rattle.texture_copies.specs.declared.TexturePlanned.the-variants as X
