@@ -17,7 +17,7 @@ use sheet::Parts;
 use sheet::Sheet;
 
 // Room for any piece.
-pub const PIECE_BYTES: usize = 1024;
+const PIECE_BYTES: usize = 1024;
 
 // Where the listing is: the line of a sheet that is ill; or how many copies there are, how many are left and where the next
 // one's line begins, with what is left of the last one's regions.

@@ -21,7 +21,7 @@ pub const BUFFERS: usize = 2;
 pub const COPIES: usize = 3;
 
 // The most bytes of a sheet.
-pub const SHEET_BYTES: usize = 65536;
+const SHEET_BYTES: usize = 65536;
 
 // How many lines a section has, where the first begins, and the place behind the last.
 pub struct Part {
