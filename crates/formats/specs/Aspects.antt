@@ -1,6 +1,8 @@
 -- The aspects that a copy chooses of a format, and what they bring.
 use Prim.Native.Nat.{ℕ}
+use mathlib.Core.List.{[], _∷_}
 use lib.Dec.{eqb}
+use lib.ListN.{getD}
 use Rattle.checks.specs.Checks.{pick, stop-if, _$_}
 use Rattle.flags.specs.Flags.{meet}
 use Rattle.flags.specs.FormatAspects.{COLOR, DEPTH, STENCIL, PLANE-0, PLANE-1, PLANE-2}
@@ -10,6 +12,10 @@ use Rattle.formats.specs.declared.FormatRow.{FormatRow}
 use Rattle.formats.specs.declared.TextureAspect.{TextureAspect}
 use Rattle.formats.specs.declared.TextureAspect.the-variants.{All, StencilOnly, DepthOnly, Plane0, Plane1, Plane2}
 use Rattle.formats.specs.Sheet.{rowOf, aspectsOf, isMultiPlanar, none}
+
+-- the aspect of a number, 0 to 5; a larger one, which callers refuse, counts as 5
+unfoldable pub aspectOf : ℕ → TextureAspect
+aspectOf n = getD (All ∷ StencilOnly ∷ DepthOnly ∷ Plane0 ∷ Plane1 ∷ []) n Plane2
 
 -- a word of aspects met with those asked
 unfoldable pub askedOf : ℕ → TextureAspect → ℕ

@@ -4,7 +4,7 @@ ghost use mathlib.Core.Bool.{true};
 ghost use Rattle.flags.specs.FormatAspects.{COLOR};
 ghost use Rattle.measures.specs.Measure.{orElse};
 ghost use Rattle.formats.specs.Sheet.{color as colorRow, depthStencil, planar as planarRow, rowOf, isFormat, blockWidth, blockHeight, aspectsOf, isDepthStencil, isCombinedDepthStencil, removeSrgb, isMultiPlanar};
-ghost use Rattle.formats.specs.Aspects.{askedOf, chosenAspects, bytesOf, blockCopySize, planeFormat, aspectSpecificFormat, subsamplingFactor};
+ghost use Rattle.formats.specs.Aspects.{aspectOf, askedOf, chosenAspects, bytesOf, blockCopySize, planeFormat, aspectSpecificFormat, subsamplingFactor};
 ghost use Rattle.formats.specs.Laws.{EveryFormat};
 use flags::FormatAspects;
 use measures::OptionU32;
@@ -162,6 +162,20 @@ pub fn format_aspects(format: u32) -> FormatAspects
 {
     let row = format_row(format);
     row.aspects
+}
+
+// The aspect of a number, 0 to 5; a larger one, which callers refuse, counts as 5.
+pub fn aspect_of(n: u64) -> TextureAspect
+    ensures { λ r. ⌜ r ≡ aspectOf n ⌝ }
+{
+    match n {
+        0 => TextureAspect::All,
+        1 => TextureAspect::StencilOnly,
+        2 => TextureAspect::DepthOnly,
+        3 => TextureAspect::Plane0,
+        4 => TextureAspect::Plane1,
+        _ => TextureAspect::Plane2,
+    }
 }
 
 fn met_with_asked(aspects: FormatAspects, asked: TextureAspect) -> FormatAspects

@@ -8,7 +8,7 @@ use Prim.Native.Nat.{ℕ, _+_, _^_, _≤_, _<_}
 use native.Mathlib.Omega.{arith}
 use lib.Dec.{ltb}
 use borrow.Author.Tests.{ltb-true}
-use Rattle.checks.specs.Checks.{pick, every}
+use Rattle.checks.specs.Checks.{pick, stop-if, every}
 use Rattle.checks.proofs.Rules.{AllTrue, all-true}
 use Rattle.checks.proofs.Tables.{at-each}
 use Rattle.measures.specs.declared.Extent3d.{Extent3d}
@@ -21,12 +21,19 @@ use Rattle.formats.specs.declared.TextureAspect.{TextureAspect}
 use Rattle.formats.specs.declared.TextureAspect.the-variants.{All, StencilOnly, DepthOnly, Plane0, Plane1, Plane2}
 use Rattle.formats.specs.Sheet.{formats, unknown, rowOf, aspectsOf}
 use Rattle.formats.specs.Aspects.{askedOf, chosenAspects}
+use Rattle.refusals.specs.declared.TransferError.{TransferError}
 use Rattle.records.specs.declared.Texture.{Texture}
 use Rattle.records.specs.declared.TexelCopyTextureInfo.{TexelCopyTextureInfo}
 use Rattle.ranges.specs.Range.{copyExtent, depthOf}
 use Rattle.selectors.specs.Selector.{layerOf, zOf, baseOf}
 use Rattle.region_output.specs.Numbers.{place, sides}
 use Rattle.region_output.proofs.Kept.{Small}
+
+-- what holds of every answer that is no refusal, past a line of an order of checks
+pub past : {A : Type 0} (Q : A → Type 0) (refused : TransferError → A) → ((e : TransferError) → Q (refused e)) → (t : Bool) (e : TransferError) (rest : A) → (t ≡ false → Q rest) → Q (stop-if t (refused e) rest)
+unfolding stop-if
+past Q refused none true e rest h = none e
+past Q refused none false e rest h = h refl
 
 pub either-way : {A : Type 0} (Q : A → Type 0) (t : Bool) (a b : A) → Q a → Q b → Q (pick t a b)
 either-way Q true a b h k = h

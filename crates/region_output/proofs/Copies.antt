@@ -40,7 +40,7 @@ use Rattle.buffer_texture.specs.Copy.{Direction, Upload, Download, Copy}
 use Rattle.buffer_texture.specs.Plan.{dense, planFor, planned, bufferToTexture, textureToBuffer}
 use Rattle.buffer_texture.specs.Laws.{Accepted}
 use Rattle.buffer_texture.proofs.Accepted.{every-copy-law as copies-law, as-uploaded, as-downloaded}
-use Rattle.texture_plans.specs.declared.TextureSide.{TextureSide}
+use Rattle.records.specs.declared.TextureSide.{TextureSide}
 use Rattle.texture_plans.specs.Plan as X
 use Rattle.texture_copies.specs.declared.TexturePlanned.{TexturePlanned}
 use Rattle.texture_copies.specs.declared.TexturePlanned.the-variants as T

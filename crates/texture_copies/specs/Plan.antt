@@ -14,7 +14,7 @@ use Rattle.refusals.specs.Order.{Checks, refuse-if, decided}
 use Rattle.records.specs.Bounds.{textureChecks}
 use Rattle.ranges.specs.Range.{subjectOf, dimensionChecks, rangeChecks}
 use Rattle.selectors.specs.Selector.{selectorChecks, sameTextureChecks}
-use Rattle.texture_plans.specs.declared.TextureSide.{TextureSide}
+use Rattle.records.specs.declared.TextureSide.{TextureSide}
 use Rattle.texture_copies.specs.declared.TexturePlanned.{TexturePlanned}
 use Rattle.texture_copies.specs.declared.TexturePlanned.the-variants as P
 use Rattle.texture_copies.specs.Copy.{BetweenTextures, between, isOneTexture, splits, formatsDiffer, planeWidth, planeHeight, lacksAspects, layers, planFor}

@@ -19,7 +19,7 @@ use Rattle.ranges.specs.Range.{subjectOf, dimensionChecks, rangeChecked}
 use Rattle.selectors.specs.declared.TextureCopyBase.{TextureCopyBase}
 use Rattle.selectors.specs.Selector.{selectorChecked, sameTextureChecks}
 use Rattle.rule_answers.specs.Stages.{after, after-range, after-selector}
-use Rattle.texture_plans.specs.declared.TextureSide.{TextureSide}
+use Rattle.records.specs.declared.TextureSide.{TextureSide}
 use Rattle.texture_plans.specs.Plan.{planOf}
 use Rattle.texture_copies.specs.declared.TexturePlanned.{TexturePlanned}
 use Rattle.texture_copies.specs.declared.TexturePlanned.the-variants as P

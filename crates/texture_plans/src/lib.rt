@@ -13,15 +13,8 @@ use init::TextureInitRange;
 use measures::Extent3d;
 use measures::Origin3d;
 use ranges::CopyExtent;
-use records::TexelCopyTextureInfo;
-use records::Texture;
+use records::TextureSide;
 use selectors::TextureCopyBase;
-
-// One side of the copy: a texture, and the part of it.
-pub struct TextureSide {
-    pub texture: Texture,
-    pub view: TexelCopyTextureInfo,
-}
 
 // What a layer is copied as.
 pub enum CopyParts {

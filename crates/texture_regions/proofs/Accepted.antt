@@ -21,6 +21,7 @@ use Rattle.refusals.specs.declared.Checked.the-variants as C
 use Rattle.refusals.specs.Answers.{after}
 use Rattle.refusals.proofs.Answers.{went-on}
 use Rattle.records.specs.declared.Texture.{Texture}
+use Rattle.records.specs.declared.TextureSide.{TextureSide}
 use Rattle.records.specs.Bounds.{textureInBounds, textureChecked}
 use Rattle.ranges.specs.declared.CopyExtent.{CopyExtent}
 use Rattle.ranges.specs.declared.RangeChecked.{RangeChecked}
@@ -34,7 +35,6 @@ use Rattle.selectors.specs.declared.SelectorChecked.{SelectorChecked}
 use Rattle.selectors.specs.declared.SelectorChecked.the-variants as S
 use Rattle.selectors.specs.Selector.{selectorOf, baseOf, selectedOf, selectorChecked}
 use Rattle.copies.specs.Copies.{after-range, after-selector}
-use Rattle.texture_plans.specs.declared.TextureSide.{TextureSide}
 use Rattle.texture_plans.specs.declared.TexturePlan.{TexturePlan}
 use Rattle.texture_plans.specs.Plan.{planOf}
 use Rattle.texture_copies.specs.declared.TexturePlanned.{TexturePlanned}

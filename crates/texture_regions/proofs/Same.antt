@@ -20,10 +20,10 @@ use Rattle.formats.specs.declared.TextureAspect.the-variants.{All, StencilOnly,
 use Rattle.formats.specs.Sheet.{formats, rowOf, aspectsOf, isFormat, isCombinedDepthStencil, isMultiPlanar, removeSrgb}
 use Rattle.formats.specs.Aspects.{askedOf, chosenAspects, planeFormat, aspectSpecificFormat}
 use Rattle.records.specs.declared.Texture.{Texture}
+use Rattle.records.specs.declared.TextureSide.{TextureSide}
 use Rattle.records.specs.Bounds.{textureInBounds, fieldsInBounds, samplesInBounds, formatSuits}
 use Rattle.ranges.specs.Range as R
 use Rattle.selectors.specs.Selector as S
-use Rattle.texture_plans.specs.declared.TextureSide.{TextureSide}
 use Rattle.texture_plans.specs.declared.TexturePlan.{TexturePlan}
 use Rattle.texture_plans.specs.declared.CopyParts.the-variants.{Whole, DepthStencil, Planes}
 use Rattle.texture_plans.specs.Plan as N

@@ -34,7 +34,7 @@ use Rattle.ranges.proofs.Accepted.{every-range}
 use Rattle.selectors.specs.declared.TextureCopyBase.{TextureCopyBase}
 use Rattle.selectors.specs.Selector.{baseOf, selectorChecked, sameTextureChecked}
 use Rattle.copies.specs.Copies.{after-range, after-selector}
-use Rattle.texture_plans.specs.declared.TextureSide.{TextureSide}
+use Rattle.records.specs.declared.TextureSide.{TextureSide}
 use Rattle.texture_copies.specs.declared.TexturePlanned.{TexturePlanned}
 use Rattle.texture_copies.specs.declared.TexturePlanned.the-variants as X
 use Rattle.texture_plans.specs.Plan.{planOf}

@@ -12,7 +12,7 @@ use Rattle.records.specs.declared.Device.{Device}
 use Rattle.records.specs.declared.Texture.{Texture}
 use Rattle.records.specs.declared.TexelCopyTextureInfo.{TexelCopyTextureInfo}
 use Rattle.buffer_texture.specs.Copy.{Direction, Download, Copy}
-use Rattle.texture_plans.specs.declared.TextureSide.{TextureSide}
+use Rattle.records.specs.declared.TextureSide.{TextureSide}
 use Rattle.webgpu.specs.WebGpu as W
 use Rattle.webgpu_copies.specs.WholeCopies.{GivesBufferPlan, planned, GivesPlan, StandardCopy, PlansTextures, StandardTextures}
 -- what is judged

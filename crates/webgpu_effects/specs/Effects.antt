@@ -7,7 +7,7 @@ use Rattle.buffer_texture_plans.specs.declared.BufferTextureCopy.{BufferTexture
 use Rattle.buffer_texture_plans.specs.declared.BufferTexturePlan.{BufferTexturePlan}
 use Rattle.buffer_texture.specs.declared.BufferTexturePlanned.the-variants.{Plan}
 use Rattle.levels.specs.declared.TextureDimension.{TextureDimension}
-use Rattle.texture_plans.specs.declared.TextureSide.{TextureSide}
+use Rattle.records.specs.declared.TextureSide.{TextureSide}
 use Rattle.texture_plans.specs.declared.TextureCopy.{TextureCopy}
 use Rattle.texture_plans.specs.declared.TexturePlan.{TexturePlan}
 use Rattle.texture_copies.specs.declared.TexturePlanned.the-variants as P
