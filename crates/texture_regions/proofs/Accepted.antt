@@ -1,8 +1,8 @@
 -- What an acceptance says of a copy between textures.
 -- Assumes nothing.
-use mathlib.Core.Path.{_≡_, refl, ap, _∙_}
-use mathlib.Core.Bool.{Bool, true, false, not, _&&_}
+use mathlib.Core.Path.{_≡_}
 use Prim.Native.Nat.{ℕ}
+<<<<<<< HEAD
 use native.Mathlib.Omega.{arith}
 use lib.Dec.{eqb}
 use borrow.Author.Tests.{not-false}
@@ -35,78 +35,35 @@ use Rattle.selectors.specs.declared.SelectorChecked.{SelectorChecked}
 use Rattle.selectors.specs.declared.SelectorChecked.the-variants as S
 use Rattle.selectors.specs.Selector.{selectorOf, baseOf, selectedOf, selectorChecked}
 use Rattle.copies.specs.Copies.{after-range, after-selector}
+=======
+use Rattle.selectors.specs.declared.TextureCopyBase.{TextureCopyBase}
+use Rattle.selectors.specs.Selector.{baseOf}
+use Rattle.records.specs.declared.TextureSide.{TextureSide}
+>>>>>>> textures
 use Rattle.texture_plans.specs.declared.TexturePlan.{TexturePlan}
-use Rattle.texture_plans.specs.Plan.{planOf}
-use Rattle.texture_copies.specs.declared.TexturePlanned.{TexturePlanned}
-use Rattle.texture_copies.specs.declared.TexturePlanned.the-variants as P
-use Rattle.texture_copies.specs.Plan.{isPlaneSplit, formatsDiffer, planeChecked, withinOne, usable, selectedCopy, rangedCopy, textureToTexture}
+use Rattle.texture_copies.specs.declared.TexturePlanned.the-variants.{Plan}
+use Rattle.texture_copies.specs.Copy as T
+use Rattle.texture_copies.specs.Copy.{BetweenTextures, between}
+use Rattle.texture_copies.specs.Plan.{textureToTexture}
+use Rattle.texture_copies.specs.Laws as L
+use Rattle.texture_copies.proofs.Accepted.{every-copy-law}
 use Rattle.texture_regions.specs.Regions.{Copy}
 
--- ---- one line each
-
-no-plan : {e : TransferError} {p : TexturePlan} → P.Refused e ≡ P.Plan p → ⊥
-no-plan h = let z : _≡_ {A = ℕ} 0 1 = cc in omega arith
-
-no-refusal : {e : TransferError} → C.Refused e ≡ C.GoOn → ⊥
-no-refusal h = let z : _≡_ {A = ℕ} 0 1 = cc in omega arith
-
-same-plan : {p q : TexturePlan} → P.Plan p ≡ P.Plan q → p ≡ q
-same-plan e = cc
-
-module _ (p : TexturePlan) where
-  ranged : (m : RangeChecked) (k : CopyExtent → ℕ → TexturePlanned) → after-range m P.Refused k ≡ P.Plan p → (v : CopyExtent) × (n : ℕ) × (m ≡ R.GoOn v n) × (k v n ≡ P.Plan p)
-  unfolding after-range
-  ranged (R.GoOn v n) k h = (v, n, refl, h)
-  ranged (R.Refused e) k h = absurd (no-plan h)
-
-  selected : (m : SelectorChecked) (k : TextureCopyBase → TexturePlanned) → after-selector m P.Refused k ≡ P.Plan p → (s : TextureSelector) × (b : TextureCopyBase) × (m ≡ S.GoOn s b) × (k b ≡ P.Plan p)
-  unfolding after-selector
-  selected (S.GoOn s b) k h = (s, b, refl, h)
-  selected (S.Refused e) k h = absurd (no-plan h)
-
-  passed : (m : Checked) (rest : TexturePlanned) → after m P.Refused rest ≡ P.Plan p → (m ≡ C.GoOn) × (rest ≡ P.Plan p)
-  passed m rest h = went-on TexturePlanned P.Refused rest (P.Plan p) m h (λ e. no-plan)
-
-  past : (t : Bool) (e : TransferError) (rest : TexturePlanned) → stop-if t (P.Refused e) rest ≡ P.Plan p → (t ≡ false) × (rest ≡ P.Plan p)
-  past t e rest h = went-past TexturePlanned t (P.Refused e) rest (P.Plan p) h no-plan
-
-texture-ok : (t : Texture) (side : CopySide) → textureChecked t side ≡ C.GoOn → textureInBounds t ≡ true
-unfolding textureChecked
-texture-ok t side h = not-false _ (went-past Checked (not (textureInBounds t)) (C.Refused (E.InvalidTextureRecord side)) C.GoOn C.GoOn h no-refusal .0)
-
--- the aspects that the rules have chosen
+-- the aspects that the rules choose, and where a side starts
 abbrev pub bits : TextureSide → ℕ
-bits s = chosenAspects (s .texture .format) (s .view .aspect)
+bits s = T.chosen s
 
 abbrev pub baseFor : TextureSide → TextureCopyBase
 baseFor s = baseOf (s .view) (s .texture) (bits s)
 
-base-of : (t : TextureSide) (size : Extent3d) (s : TextureSelector) (b : TextureCopyBase) → selectorChecked (t .view) (t .texture) size ≡ S.GoOn s b → baseFor t ≡ b
-unfolding selectorChecked selectedOf
-base-of t size s b h =
-    same (went-past SelectorChecked (eqb (bits t) 0) (S.Refused (E.InvalidTextureAspect (t .texture .format) (t .view .aspect))) (S.GoOn (selectorOf (t .view) (t .texture) size) (baseFor t)) (S.GoOn s b) h (λ e. let z : _≡_ {A = ℕ} 0 1 = cc in omega arith) .1)
-  where
-    same : {s s′ : TextureSelector} {b b′ : TextureCopyBase} → S.GoOn s b ≡ S.GoOn s′ b′ → b ≡ b′
-    same e = cc
-
--- ---- the whole order of checks
-
--- the plan of a copy that every check has passed
+-- the plan of an accepted copy, whichever textures they are
 abbrev pub planFor : Copy → TexturePlan
-planFor c =
-    planOf (c .src) (c .dst) (c .size) (copyExtent (c .src .texture) (c .size)) (copyExtent (c .dst .texture) (c .size))
-    (arrayLayerCount (c .src .texture) (c .size)) (baseFor (c .src)) (baseFor (c .dst))
+planFor c = T.planFor (between 0 (c .src) 0 (c .dst) (c .size))
 
-pub record Checks (c : Copy) (p : TexturePlan) : Type 0 where
-  pub src-bounds : textureInBounds (c .src .texture) ≡ true
-  pub dst-bounds : textureInBounds (c .dst .texture) ≡ true
-  pub formats : (formatsDiffer (c .src) (c .dst) && not (isPlaneSplit (c .src) (c .dst))) ≡ false
-  pub src-range : RangeLaws (c .src .view) (c .src .texture) (c .size)
-  pub dst-range : RangeLaws (c .dst .view) (c .dst .texture) (c .size)
-  pub src-aspects : (not (isPlaneSplit (c .src) (c .dst)) && not (eqb (bits (c .src)) (aspectsOf (c .src .texture .format)))) ≡ false
-  pub dst-aspects : not (eqb (bits (c .dst)) (aspectsOf (c .dst .texture .format))) ≡ false
-  pub plan : planFor c ≡ p
+abbrev pub Accepted : ℕ → ℕ → Copy → Type 0
+Accepted i j c = L.Accepted (between i (c .src) j (c .dst) (c .size))
 
+<<<<<<< HEAD
 plan-alike :
     (c : Copy) {v v′ w w′ : CopyExtent} {n n′ : ℕ} {a a′ b b′ : TextureCopyBase} → v ≡ v′ → w ≡ w′ → n ≡ n′ → a ≡ a′ → b ≡ b′
     → planOf (c .src) (c .dst) (c .size) v w n a b ≡ planOf (c .src) (c .dst) (c .size) v′ w′ n′ a′ b′
@@ -151,3 +108,8 @@ checks-of i j c p h =
       dst-aspects = bits-same dst true (b .1) dst-base (n .0);
       plan = plan-alike c (src-range .1) (dst-range .1) (src-range .2) src-base dst-base ∙ same-plan (w .1);
     }
+=======
+pub accepted : (i j : ℕ) (c : Copy) (p : TexturePlan) → textureToTexture i (c .src) j (c .dst) (c .size) ≡ Plan p → Accepted i j c × (planFor c ≡ p)
+unfolding T.planFor
+accepted i j c p h = every-copy-law (between i (c .src) j (c .dst) (c .size)) .is-accepted p h
+>>>>>>> textures

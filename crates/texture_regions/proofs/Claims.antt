@@ -9,6 +9,7 @@ use native.Mathlib.Nat.{div-one, min-eq-left, le-refl}
 use lib.ListN.{length, getD}
 use Rattle.checks.specs.Checks.{pick}
 use Rattle.measures.specs.declared.Extent3d.{Extent3d}
+use Rattle.measures.specs.Measure as M
 use Rattle.measures.specs.Measure.{physicalSize}
 use Rattle.levels.specs.declared.TextureDimension.{TextureDimension}
 use Rattle.levels.specs.declared.TextureDimension.the-variants.{D1, D2, D3}
@@ -19,17 +20,22 @@ use Rattle.records.proofs.Bounded.{texture-laws}
 use Rattle.ranges.specs.Range.{copyExtent, arrayLayerCount}
 use Rattle.ranges.specs.Laws.{RangeLaws}
 use Rattle.selectors.specs.Selector.{baseOf}
+<<<<<<< HEAD
 use Rattle.copies.specs.Copies as C
 use Rattle.records.specs.declared.TextureSide.{TextureSide}
+=======
+use Rattle.records.specs.declared.TextureSide.{TextureSide}
+>>>>>>> textures
 use Rattle.texture_plans.specs.declared.CopyParts.{CopyParts}
 use Rattle.texture_plans.specs.declared.CopyParts.the-variants.{Whole, DepthStencil, Planes}
 use Rattle.texture_plans.specs.declared.TextureCopy.{TextureCopy}
 use Rattle.texture_plans.specs.declared.TexturePlan.{TexturePlan}
 use Rattle.texture_plans.specs.Plan as N
 use Rattle.texture_plans.specs.Asking as A
+use Rattle.texture_copies.specs.Copy as T
 use Rattle.texture_regions.specs.Regions.{Copy, Part, part, dimension, depth, bits, parts, layersOf, layerOf, isEmpty, regionOf, regionAt, regionCount, regionsFrom, regionsOf}
 use Rattle.texture_regions.specs.Claim.{Gives, EveryTextureCopy}
-use Rattle.texture_regions.proofs.Accepted.{Checks, checks-of, baseFor, planFor}
+use Rattle.texture_regions.proofs.Accepted.{Accepted, accepted, baseFor, planFor}
 use Rattle.texture_regions.proofs.Asks.{nextRegions, gives, gives-only}
 use Rattle.texture_regions.proofs.States.{partsFor, num, first, baseAt, Behind, region-is, behind-next}
 use Rattle.texture_regions.proofs.Same.{same-dimension, same-layers, same-depth, same-layer, same-z, same-bits, same-parts}
@@ -78,7 +84,7 @@ deep s size b r =
 
 -- ---- the plan's regions
 
-module _ (c : Copy) (p : TexturePlan) (k : Checks c p) where
+module _ (i j : ℕ) (c : Copy) (k : Accepted i j c) where
   abbrev v : CopyParts
   v = N.partsOf (c .dst .texture .format)
 
@@ -95,7 +101,7 @@ module _ (c : Copy) (p : TexturePlan) (k : Checks c p) where
   region-of n h =
       region-is c v h
       ∙ ap (λ (m : ℕ). regionOf c (n / m) (getD (partsFor v (bits (c .src)) (bits (c .dst))) (n % m) (part 0 0 1))) (sym (counts v _ _))
-      ∙ ap (λ (l : List Part). regionOf c (n / length l) (getD l (n % length l) (part 0 0 1))) (sym (same-parts c p k))
+      ∙ ap (λ (l : List Part). regionOf c (n / length l) (getD l (n % length l) (part 0 0 1))) (sym (same-parts i j c k))
 
   carried : (n : ℕ) (w : CopyParts) (q : TexturePlan) → w ≡ v → Behind c v n (A.advanced v q) → Behind c v n (A.advanced w q)
   carried n w q e h = rw e h
@@ -117,7 +123,7 @@ module _ (c : Copy) (p : TexturePlan) (k : Checks c p) where
       rw (same-dimension s, same-layer (dimension s) (s .view .origin .z), same-z (dimension s) (s .view .origin .z), same-bits s b, ← l)
 
   begins : Behind c v 0 (planFor c)
-  unfolding N.planOf N.lesser copyExtent
+  unfolding T.planFor N.planOf N.lesser copyExtent
   begins =
       let z = started v in
       let w : min (c .size .width) (c .size .width) ≡ c .size .width = min-eq-left (le-refl _) in
@@ -131,10 +137,10 @@ module _ (c : Copy) (p : TexturePlan) (k : Checks c p) where
       }
 
   part-count : length (parts c) ≡ num v
-  part-count = ap (λ (l : List Part). length l) (same-parts c p k) ∙ counts v _ _
+  part-count = ap (λ (l : List Part). length l) (same-parts i j c k) ∙ counts v _ _
 
   left-is : planFor c .left ≡ regionCount c
-  unfolding N.planOf arrayLayerCount C.isEmpty
+  unfolding T.planFor N.planOf arrayLayerCount M.isEmpty
   left-is = rw (counted v, part-count, same-dimension (c .src), same-layers (dimension (c .src)) (depth c)) (as-cond (isEmpty (c .size)) _)
     where
       as-cond : (t : Bool) (n : ℕ) → pick t 0 n ≡ cond t 0 n
@@ -154,4 +160,4 @@ module _ (c : Copy) (p : TexturePlan) (k : Checks c p) where
   asked rs = (λ g. gives-only _ g refl ∙ all-left, λ e. rw (e, ← all-left) (gives _ (planFor c) refl))
 
 pub every-texture-copy : EveryTextureCopy
-every-texture-copy i j c p e = let k = checks-of i j c p e in rw (← k .plan) (asked c p k)
+every-texture-copy i j c p e = let k = accepted i j c p e in rw (← k .1) (asked i j c (k .0))

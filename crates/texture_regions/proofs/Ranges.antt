@@ -25,12 +25,18 @@ use Rattle.records.specs.Extents.{logicalExtent}
 use Rattle.init.specs.declared.MemoryInitKind.{MemoryInitKind}
 use Rattle.init.specs.declared.MemoryInitKind.the-variants.{ImplicitlyInitialized, NeedsInitializedMemory}
 use Rattle.init.specs.Init as I
+<<<<<<< HEAD
 use Rattle.copies.specs.Copies as C
+=======
+use Rattle.measures.specs.Measure as M
+use Rattle.records.specs.declared.TextureSide.{TextureSide}
+>>>>>>> textures
 use Rattle.texture_plans.specs.Plan as N
+use Rattle.texture_copies.specs.Copy as T
 use Rattle.texture_regions.specs.Regions.{Copy, dimension, isEmpty}
 use Rattle.texture_regions.specs.Ranges.{isAll, layersFrom, halved, coversLevel, covers, rangeOf, rangesOf}
 use Rattle.texture_regions.specs.Claim.{EveryTextureRange}
-use Rattle.texture_regions.proofs.Accepted.{checks-of, planFor}
+use Rattle.texture_regions.proofs.Accepted.{accepted, planFor}
 use Rattle.texture_regions.proofs.Same.{same-dimension}
 
 -- ---- layers and level, by the dimension
@@ -117,9 +123,9 @@ same-kind s size p q b =
     (flip (coversLevel (dimension s) size (s .texture .size) (s .view .«mip_level»)) (isAll (s .view .aspect)) p q)
 
 ranges-are : (c : Copy) → textureInBounds (c .dst .texture) ≡ true → planFor c .ranges ≡ rangesOf c
-unfolding N.planOf N.rangesOf I.srcTextureRange I.dstTextureRange C.isEmpty
+unfolding T.planFor N.planOf N.rangesOf I.srcTextureRange I.dstTextureRange M.isEmpty
 ranges-are c b =
     rw (same-range (c .src), same-range (c .dst), same-kind (c .dst) (c .size) NeedsInitializedMemory ImplicitlyInitialized b) (same-pick (isEmpty (c .size)) _ _)
 
 pub every-texture-range : EveryTextureRange
-every-texture-range i j c p e = let k = checks-of i j c p e in rw (← k .plan) (ranges-are c (k .dst-bounds))
+every-texture-range i j c p e = let k = accepted i j c p e in rw (← k .1) (ranges-are c (k .0 .dst-bounds))

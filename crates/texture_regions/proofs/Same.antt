@@ -7,7 +7,7 @@ use mathlib.Core.Logic.{_⊎_, inl, inr}
 use Prim.Native.Nat.{ℕ, _<_}
 use native.Mathlib.Omega.{arith}
 use lib.Dec.{eqb}
-use borrow.Author.Tests.{eqb-true, ltb-true, not-false}
+use borrow.Author.Tests.{eqb-true, eq-eqb, ltb-true, not-true}
 use Rattle.checks.specs.Checks.{stop-if}
 use Rattle.checks.proofs.Rules.{both-true, either}
 use Rattle.checks.proofs.Tables.{everyBelow, at-below}
@@ -24,10 +24,14 @@ use Rattle.records.specs.declared.TextureSide.{TextureSide}
 use Rattle.records.specs.Bounds.{textureInBounds, fieldsInBounds, samplesInBounds, formatSuits}
 use Rattle.ranges.specs.Range as R
 use Rattle.selectors.specs.Selector as S
+<<<<<<< HEAD
 use Rattle.texture_plans.specs.declared.TexturePlan.{TexturePlan}
+=======
+use Rattle.records.specs.declared.TextureSide.{TextureSide}
+>>>>>>> textures
 use Rattle.texture_plans.specs.declared.CopyParts.the-variants.{Whole, DepthStencil, Planes}
 use Rattle.texture_plans.specs.Plan as N
-use Rattle.texture_copies.specs.Plan.{isThis, isPlaneSplit, formatsDiffer}
+use Rattle.texture_copies.specs.Copy.{isThis, isPlaneSplit}
 use Rattle.texture_regions.specs.Regions.{Copy, part, formatBits, isAsked, chosen, bits, isNv12, parts, dimension, layersOf, layerOf, zOf, depthOf}
 use Rattle.texture_regions.proofs.Accepted as A
 use Rattle.texture_regions.proofs.States.{partsFor}
@@ -87,10 +91,10 @@ same-bits s b = eqb-true _ _ (at-below (sameBits (s .view .aspect)) 22 (all-same
 
 -- ---- parts
 
--- what is copied to NV12 is NV12
+-- nothing is split into NV12, and what is NV12 but for srgb is NV12
 planarTo : TextureAspect → ℕ → Bool
 planarTo asked format =
-    (not (eqb (removeSrgb format) (removeSrgb 21)) && not (isThis (aspectSpecificFormat (removeSrgb format) asked) (removeSrgb 21))) || eqb format 21
+    not (isThis (aspectSpecificFormat (removeSrgb format) asked) (removeSrgb 21)) && (not (eqb (removeSrgb format) (removeSrgb 21)) || eqb format 21)
 
 all-planar : (asked : TextureAspect) → everyBelow (planarTo asked) 22 ≡ true
 unfolding planarTo removeSrgb rowOf formats isThis aspectSpecificFormat isMultiPlanar planeFormat stop-if
@@ -113,16 +117,17 @@ chosen-parts true t a b = refl
 chosen-parts false true a b = refl
 chosen-parts false false a b = refl
 
-module _ (c : Copy) (p : TexturePlan) (k : A.Checks c p) where
+module _ (i j : ℕ) (c : Copy) (k : A.Accepted i j c) where
   from-planar : c .dst .texture .format ≡ 21 → isNv12 (c .src) ≡ true
-  unfolding planarTo formatsDiffer isPlaneSplit
+  unfolding planarTo isPlaneSplit
   from-planar e =
       let asked = c .src .view .aspect in
       let h = rw e at (k .formats) in
-      go (either _ _ (at-below (planarTo asked) 22 (all-planar asked) (c .src .texture .format) (known-format (c .src .texture) (k .src-bounds)))) h
+      let t = both-true _ _ (at-below (planarTo asked) 22 (all-planar asked) (c .src .texture .format) (known-format (c .src .texture) (k .src-bounds))) in
+      go (either _ _ (t .1)) (eq-eqb _ _ (h (not-true _ (t .0))))
     where
-      go : {t u : Bool} → (t ≡ true) ⊎ (u ≡ true) → t ≡ false → u ≡ true
-      go (inl y) n = other y n
+      go : {s u : Bool} → (not s ≡ true) ⊎ (u ≡ true) → s ≡ true → u ≡ true
+      go (inl y) n = other n (not-true _ y)
       go (inr y) n = y
 
   both-planar : (t : Bool) → isNv12 (c .dst) ≡ t → (isNv12 (c .src) && t) ≡ t
@@ -136,5 +141,5 @@ module _ (c : Copy) (p : TexturePlan) (k : A.Checks c p) where
   pub same-parts : parts c ≡ partsFor (N.partsOf (c .dst .texture .format)) (bits (c .src)) (bits (c .dst))
   unfolding parts N.partsOf isCombinedDepthStencil isMultiPlanar
   same-parts =
-      let e : bits (c .dst) ≡ aspectsOf (c .dst .texture .format) = sym (same-bits (c .dst) (k .dst-bounds)) ∙ eqb-true _ _ (not-false _ (k .dst-aspects)) in
+      let e : bits (c .dst) ≡ aspectsOf (c .dst .texture .format) = sym (same-bits (c .dst) (k .dst-bounds)) ∙ k .dst-aspects in
       rw (both-planar _ refl, ← e) (chosen-parts _ _ _ _)
