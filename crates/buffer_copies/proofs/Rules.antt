@@ -1,7 +1,7 @@
 -- How the checks of a copy between buffers go on.
 -- Assumes nothing.
 use mathlib.Core.Path.{_≡_, ap}
-use Rattle.refusals.proofs.Answers.{handed}
+use Rattle.rule_answers.proofs.Rules.{copied}
 use Rattle.buffer_copies.specs.declared.BufferPlan.{BufferPlan}
 use Rattle.buffer_copies.specs.declared.BufferPlanned.the-variants as P
 
@@ -9,4 +9,4 @@ use Rattle.buffer_copies.specs.declared.BufferPlanned.the-variants as P
 pub planned-alike : (p q : BufferPlan) → p ≡ q → P.Plan p ≡ P.Plan q
 planned-alike p q e = ap P.Plan e
 
-pub ruleset planned = (handed, planned-alike)
+pub ruleset planned = (copied, planned-alike)

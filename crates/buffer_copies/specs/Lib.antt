@@ -1,1 +1,3 @@
 pub mod BufferCopies
+pub mod Stages
+pub mod Laws

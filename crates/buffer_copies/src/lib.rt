@@ -4,7 +4,9 @@ ghost use Prim.Native.Nat.{_+_, _-_, _^_, _<_, _≤_};
 ghost use Rattle.checks.specs.Checks.{pick};
 ghost use Rattle.measures.specs.Measure.{multiple};
 ghost use Rattle.init.specs.Init.{bufferRange, unless};
-ghost use Rattle.buffer_copies.specs.BufferCopies.{sizeOf, isShared, lacksIndexFact, isEmpty, planOf, fittingCopy, sizedCopy, usableCopy, bufferToBuffer, advanced, nextOf};
+ghost use Rattle.buffer_copies.specs.BufferCopies.{sizeOf, isShared, lacksIndexFact, planOf, bufferToBuffer, advanced, nextOf};
+ghost use Rattle.buffer_copies.specs.Stages.{fittingCopy, sizedCopy, usableCopy};
+ghost use Rattle.buffer_copies.specs.Laws.{EveryCopyLaw};
 use flags::BufferUsages;
 use init::BufferInitRange;
 use init::MemoryInitKind;
@@ -285,11 +287,11 @@ pub fn copy_buffer_to_buffer(
 {
     let src_checked = records::check_buffer(src, CopySide::Source);
     let Checked::GoOn = src_checked else {
-        return BufferPlanned::Refused(refusals::why(src_checked));
+        return BufferPlanned::Refused(rule_answers::why(src_checked));
     };
     let dst_checked = records::check_buffer(dst, CopySide::Destination);
     let Checked::GoOn = dst_checked else {
-        return BufferPlanned::Refused(refusals::why(dst_checked));
+        return BufferPlanned::Refused(rule_answers::why(dst_checked));
     };
     copy_usable(
         device,
@@ -338,3 +340,8 @@ impl BufferPlan {
         }
     }
 }
+
+// Asks the check for the law of an accepted copy; nothing runs here.
+pub fn copy_laws()
+    ensures { λ _. ⌜ EveryCopyLaw ⌝ }
+{}

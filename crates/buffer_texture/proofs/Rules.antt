@@ -15,37 +15,27 @@ use Rattle.records.proofs.Bounded.{buffer-laws}
 use Rattle.linear.specs.declared.LinearData.{LinearData}
 use Rattle.linear.specs.declared.LinearChecked.{LinearChecked}
 use Rattle.linear.specs.declared.LinearChecked.the-variants as L
-use Rattle.linear.specs.Linear.{denseOf, dataOf, linearData}
-use Rattle.linear.proofs.Accepted.{every-linear}
-use Rattle.copies.proofs.Rules.{copied}
+use Rattle.linear.specs.Linear.{dataOf, linearChecked}
+use Rattle.linear.proofs.Accepted.{linear-went}
+use Rattle.rule_answers.proofs.Rules.{copied}
 use Rattle.buffer_texture_plans.specs.declared.BufferTexturePlan.{BufferTexturePlan}
 use Rattle.buffer_texture.specs.declared.BufferTexturePlanned.{BufferTexturePlanned}
 use Rattle.buffer_texture.specs.declared.BufferTexturePlanned.the-variants as P
-use Rattle.buffer_texture.specs.Plan.{after-linear, linearWhy}
-
-module _ (r m : LinearChecked) (k : LinearData → BufferTexturePlanned) where
-  pub linear-goes : (x : BufferTexturePlanned) (s : LinearData) → r ≡ m → r ≡ L.GoOn s → x ≡ k s → x ≡ after-linear m k
-  unfolding after-linear
-  linear-goes x s p q h = rw (sym p ∙ q) h
-
-  pub linear-stops : (d e : TransferError) → r ≡ m → r ≡ L.Refused e → d ≡ linearWhy r → P.Refused d ≡ after-linear m k
-  unfolding after-linear linearWhy
-  linear-stops d e p q h = rw (sym p ∙ q) (ap P.Refused (h ∙ ap linearWhy q))
 
 -- a plan that a function gave
 pub planned-alike : (p q : BufferTexturePlan) → p ≡ q → P.Plan p ≡ P.Plan q
 planned-alike p q e = ap P.Plan e
 
-pub ruleset planned = (copied, linear-goes, linear-stops, planned-alike)
+pub ruleset planned = (copied, planned-alike)
 
 -- ---- what callees need
 
 -- an accepted copy ends far below 2 ^ 63
 pub end-fits :
     (r : LinearChecked) (layout : TexelCopyBufferLayout) (format : ℕ) (aspect : TextureAspect) (b : Buffer) (side : CopySide) (size : Extent3d) (s : LinearData)
-    → bufferInBounds b ≡ true → r ≡ linearData layout format aspect (b .size) side size → r ≡ L.GoOn s → layout .offset + s .«bytes_in_copy» < 2 ^ 63
-unfolding linearData dataOf
+    → bufferInBounds b ≡ true → r ≡ linearChecked layout format aspect (b .size) side size → r ≡ L.GoOn s → layout .offset + s .«bytes_in_copy» < 2 ^ 63
+unfolding dataOf
 end-fits r layout format aspect b side size s bound p q =
-    let l = every-linear .rule layout (b .size) side (denseOf format aspect size) .went-on s (sym p ∙ q) in
+    let l = linear-went layout format aspect (b .size) side size s (sym p ∙ q) in
     let bytes = ap (λ (d : LinearData). d .«bytes_in_copy») (l .1) in
     omega (arith, l .0 .inside, bytes, buffer-laws b bound)

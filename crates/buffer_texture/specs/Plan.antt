@@ -1,112 +1,110 @@
 -- Copies between a buffer and a texture: the checks in their order, and the plan.
 use Prim.Native.Nat.{ℕ}
 use mathlib.Core.Bool.{Bool, true, _&&_, not}
+use mathlib.Core.List.{[], _∷_, flatten}
 use lib.Dec.{leb}
-use Rattle.checks.specs.Checks.{stop-if, _$_}
 use Rattle.measures.specs.declared.Extent3d.{Extent3d}
-use Rattle.flags.specs.Flags.{holds}
+use Rattle.flags.specs.BufferUsages as BufferUsages
+use Rattle.flags.specs.TextureUsages as TextureUsages
+use Rattle.flags.specs.Flags.{contains}
 use Rattle.formats.specs.Sheet.{isDepthStencil}
+use Rattle.formats.specs.Aspects.{chosenAspects}
+use Rattle.refusals.specs.declared.CopySide.{CopySide}
 use Rattle.refusals.specs.declared.CopySide.the-variants.{Source, Destination}
 use Rattle.refusals.specs.declared.DownlevelFlags.the-variants.{DepthTextureAndBufferCopies}
-use Rattle.refusals.specs.declared.TransferError.{TransferError}
 use Rattle.refusals.specs.declared.TransferError.the-variants as E
-use Rattle.refusals.specs.Answers.{after}
+use Rattle.refusals.specs.Order.{Checks, refuse-if, decided}
 use Rattle.records.specs.declared.Buffer.{Buffer}
 use Rattle.records.specs.declared.Device.{Device}
 use Rattle.records.specs.declared.Texture.{Texture}
 use Rattle.records.specs.declared.TexelCopyTextureInfo.{TexelCopyTextureInfo}
 use Rattle.records.specs.declared.TexelCopyBufferLayout.{TexelCopyBufferLayout}
-use Rattle.records.specs.Bounds.{bufferChecked, textureChecked}
-use Rattle.ranges.specs.declared.CopyExtent.{CopyExtent}
-use Rattle.ranges.specs.Range.{rangeChecked}
-use Rattle.linear.specs.declared.LinearData.{LinearData}
-use Rattle.linear.specs.declared.LinearChecked.{LinearChecked}
-use Rattle.linear.specs.declared.LinearChecked.the-variants as L
-use Rattle.linear.specs.Linear.{linearData}
-use Rattle.format_rules.specs.Rules.{srcFormat, dstFormat, textureBufferCopy}
-use Rattle.selectors.specs.declared.TextureCopyBase.{TextureCopyBase}
-use Rattle.selectors.specs.Selector.{selectorChecked}
+use Rattle.records.specs.Bounds.{bufferChecks, textureChecks}
+use Rattle.ranges.specs.Range.{copyExtent, arrayLayerCount, rangeChecks}
+use Rattle.linear.specs.declared.Dense.{Dense}
+use Rattle.linear.specs.Linear.{denseOf, linearData, linearChecks}
+use Rattle.format_rules.specs.Rules.{srcFormatChecks, dstFormatChecks, layoutChecks}
+use Rattle.selectors.specs.Selector.{baseOf, selectorChecks}
+use Rattle.init.specs.declared.TextureInitRange.{TextureInitRange}
 use Rattle.init.specs.Init.{srcTextureRange, dstTextureRange}
-use Rattle.copies.specs.Copies.{after-range, after-selector}
+use Rattle.buffer_texture_plans.specs.declared.BufferTexturePlan.{BufferTexturePlan}
 use Rattle.buffer_texture_plans.specs.Plan.{planOf}
 use Rattle.buffer_texture.specs.declared.BufferTexturePlanned.{BufferTexturePlanned}
 use Rattle.buffer_texture.specs.declared.BufferTexturePlanned.the-variants as P
+use Rattle.buffer_texture.specs.Copy.{Direction, Upload, Download, Copy}
 
--- ---- linear data: its refusal handed up, or the rest with what it gave
+-- the aspects that the copy chooses of the format
+abbrev pub aspects : Copy → ℕ
+aspects c = chosenAspects (c .texture .format) (c .view .aspect)
 
-unfoldable pub after-linear : LinearChecked → (LinearData → BufferTexturePlanned) → BufferTexturePlanned
-after-linear (L.GoOn span) rest = rest span
-after-linear (L.Refused e) rest = P.Refused e
+-- what is copied, with nothing between rows
+abbrev pub dense : Copy → Dense
+dense c = denseOf (c .texture .format) (c .view .aspect) (c .size)
 
-unfoldable pub linearWhy : LinearChecked → TransferError
-linearWhy (L.GoOn span) = E.SizeOverflow
-linearWhy (L.Refused e) = e
-
--- 34: a depth-stencil format without the fact
+-- a depth-stencil format without the fact
 unfoldable pub lacksDepthFact : Device → ℕ → Bool
 lacksDepthFact device format = isDepthStencil format && not (device .«depth_texture_and_buffer_copies»)
 
--- ---- buffer to texture
+-- ---- the orders of checks
 
--- module 4; 34
-unfoldable pub uploadPlaced : Device → Buffer → TexelCopyBufferLayout → Texture → TexelCopyTextureInfo → Extent3d → CopyExtent → ℕ → TextureCopyBase → BufferTexturePlanned
-uploadPlaced device b layout t view size extent layers base =
-    after-linear (linearData layout (t .format) (view .aspect) (b .size) Source size) λ span.
-    stop-if (lacksDepthFact device (t .format)) (P.Refused (E.MissingDownlevelFlags DepthTextureAndBufferCopies)) $
-    P.Plan (planOf layout size extent layers base span Source (dstTextureRange view t size))
+-- buffer to texture
+unfoldable pub uploadChecks : Copy → Checks
+uploadChecks c =
+    flatten (bufferChecks (c .buffer) Source)  -- 3
+    ∷ flatten (textureChecks (c .texture) Destination)  -- 2
+    ∷ flatten (rangeChecks (c .view) (c .texture) Destination (c .size))  -- module 3
+    ∷ flatten (selectorChecks (c .view) (c .texture))  -- 12
+    ∷ refuse-if (not (contains (c .buffer .usage .0) BufferUsages.COPY-SRC)) (E.MissingBufferUsage Source)  -- 5
+    ∷ refuse-if (not (contains (c .texture .usage .0) TextureUsages.COPY-DST)) (E.MissingTextureUsage Destination)  -- 6
+    ∷ flatten (dstFormatChecks (c .texture .format) (c .view .aspect))  -- 31 or 32
+    ∷ flatten (layoutChecks (c .view .aspect) (aspects c) (c .texture) (c .layout) true)  -- 35; 28; 14; 20
+    ∷ flatten (linearChecks (c .layout) (c .buffer .size) Source (dense c))  -- module 4
+    ∷ refuse-if (lacksDepthFact (c .device) (c .texture .format)) (E.MissingDownlevelFlags DepthTextureAndBufferCopies)  -- 34
+    ∷ []
 
--- 5; 6; 31 or 32; 35; 28; 14; 20
-unfoldable pub uploadAllowed : Device → Buffer → TexelCopyBufferLayout → Texture → TexelCopyTextureInfo → Extent3d → CopyExtent → ℕ → TextureCopyBase → BufferTexturePlanned
-uploadAllowed device b layout t view size extent layers base =
-    stop-if (not (holds (b .usage .0) 4)) (P.Refused (E.MissingBufferUsage Source)) $
-    stop-if (not (holds (t .usage .0) 2)) (P.Refused (E.MissingTextureUsage Destination)) $
-    after (dstFormat (t .format) (view .aspect)) P.Refused $
-    after (textureBufferCopy (view .aspect) (base .aspect .0) t layout true) P.Refused $
-    uploadPlaced device b layout t view size extent layers base
+-- texture to buffer
+unfoldable pub downloadChecks : Copy → Checks
+downloadChecks c =
+    flatten (textureChecks (c .texture) Source)  -- 2
+    ∷ flatten (bufferChecks (c .buffer) Destination)  -- 3
+    ∷ flatten (rangeChecks (c .view) (c .texture) Source (c .size))  -- module 3
+    ∷ flatten (selectorChecks (c .view) (c .texture))  -- 12
+    ∷ refuse-if (not (contains (c .texture .usage .0) TextureUsages.COPY-SRC)) (E.MissingTextureUsage Source)  -- 6
+    ∷ refuse-if (leb (c .texture .«mip_level_count») (c .view .«mip_level»)) (E.InvalidMipLevel (c .view .«mip_level») (c .texture .«mip_level_count»))  -- 37
+    ∷ flatten (srcFormatChecks (c .texture .format) (c .view .aspect))  -- 29 or 30
+    ∷ flatten (layoutChecks (c .view .aspect) (aspects c) (c .texture) (c .layout) true)  -- 35; 28; 14; 20
+    ∷ flatten (linearChecks (c .layout) (c .buffer .size) Destination (dense c))  -- module 4
+    ∷ refuse-if (lacksDepthFact (c .device) (c .texture .format)) (E.MissingDownlevelFlags DepthTextureAndBufferCopies)  -- 34
+    ∷ refuse-if (not (contains (c .buffer .usage .0) BufferUsages.COPY-DST)) (E.MissingBufferUsage Destination)  -- 5
+    ∷ []
 
--- module 3; 12
-unfoldable pub uploadRanged : Device → Buffer → TexelCopyBufferLayout → Texture → TexelCopyTextureInfo → Extent3d → BufferTexturePlanned
-uploadRanged device b layout t view size =
-    after-range (rangeChecked view t Destination size) P.Refused λ extent layers.
-    after-selector (selectorChecked view t size) P.Refused λ base.
-    uploadAllowed device b layout t view size extent layers base
+abbrev pub checksOf : Direction → Copy → Checks
+checksOf Upload c = uploadChecks c
+checksOf Download c = downloadChecks c
 
--- records: 3 source, 2 destination
+-- ---- the plan
+
+abbrev pub bufferSide : Direction → CopySide
+bufferSide Upload = Source
+bufferSide Download = Destination
+
+-- the texture's range, as it is written or read
+abbrev pub textureRange : Direction → Copy → TextureInitRange
+textureRange Upload c = dstTextureRange (c .view) (c .texture) (c .size)
+textureRange Download c = srcTextureRange (c .view) (c .texture) (c .size)
+
+unfoldable pub planFor : Copy → BufferTexturePlan
+planFor c =
+    planOf (c .layout) (c .size) (copyExtent (c .texture) (c .size)) (arrayLayerCount (c .texture) (c .size))
+    (baseOf (c .view) (c .texture) (aspects c)) (linearData (c .layout) (dense c)) (bufferSide (c .direction)) (textureRange (c .direction) c)
+
+unfoldable pub planned : Copy → BufferTexturePlanned
+planned c = decided (checksOf (c .direction) c) P.Refused (P.Plan (planFor c))
+
 unfoldable pub bufferToTexture : Device → Buffer → TexelCopyBufferLayout → Texture → TexelCopyTextureInfo → Extent3d → BufferTexturePlanned
 bufferToTexture device b layout t view size =
-    after (bufferChecked b Source) P.Refused $
-    after (textureChecked t Destination) P.Refused $
-    uploadRanged device b layout t view size
+    planned (record { direction = Upload; device = device; buffer = b; layout = layout; texture = t; view = view; size = size })
 
--- ---- texture to buffer
-
--- module 4; 34; 5
-unfoldable pub downloadPlaced : Device → Buffer → TexelCopyBufferLayout → Texture → TexelCopyTextureInfo → Extent3d → CopyExtent → ℕ → TextureCopyBase → BufferTexturePlanned
-downloadPlaced device b layout t view size extent layers base =
-    after-linear (linearData layout (t .format) (view .aspect) (b .size) Destination size) λ span.
-    stop-if (lacksDepthFact device (t .format)) (P.Refused (E.MissingDownlevelFlags DepthTextureAndBufferCopies)) $
-    stop-if (not (holds (b .usage .0) 8)) (P.Refused (E.MissingBufferUsage Destination)) $
-    P.Plan (planOf layout size extent layers base span Destination (srcTextureRange view t size))
-
--- 6; 37; 29 or 30; 35; 28; 14; 20
-unfoldable pub downloadAllowed : Device → Buffer → TexelCopyBufferLayout → Texture → TexelCopyTextureInfo → Extent3d → CopyExtent → ℕ → TextureCopyBase → BufferTexturePlanned
-downloadAllowed device b layout t view size extent layers base =
-    stop-if (not (holds (t .usage .0) 1)) (P.Refused (E.MissingTextureUsage Source)) $
-    stop-if (leb (t .«mip_level_count») (view .«mip_level»)) (P.Refused (E.InvalidMipLevel (view .«mip_level») (t .«mip_level_count»))) $
-    after (srcFormat (t .format) (view .aspect)) P.Refused $
-    after (textureBufferCopy (view .aspect) (base .aspect .0) t layout true) P.Refused $
-    downloadPlaced device b layout t view size extent layers base
-
--- module 3; 12
-unfoldable pub downloadRanged : Device → Buffer → TexelCopyBufferLayout → Texture → TexelCopyTextureInfo → Extent3d → BufferTexturePlanned
-downloadRanged device b layout t view size =
-    after-range (rangeChecked view t Source size) P.Refused λ extent layers.
-    after-selector (selectorChecked view t size) P.Refused λ base.
-    downloadAllowed device b layout t view size extent layers base
-
--- records: 2 source, 3 destination
 unfoldable pub textureToBuffer : Device → Texture → TexelCopyTextureInfo → Buffer → TexelCopyBufferLayout → Extent3d → BufferTexturePlanned
 textureToBuffer device t view b layout size =
-    after (textureChecked t Source) P.Refused $
-    after (bufferChecked b Destination) P.Refused $
-    downloadRanged device b layout t view size
+    planned (record { direction = Download; device = device; buffer = b; layout = layout; texture = t; view = view; size = size })

@@ -5,7 +5,9 @@ ghost use Prim.Native.Nat.{_+_, _^_, _<_};
 ghost use Rattle.init.specs.Init.{srcTextureRange, dstTextureRange};
 ghost use Rattle.records.specs.Bounds.{bufferInBounds, textureInBounds};
 ghost use Rattle.buffer_texture_plans.specs.Plan.{planOf};
-ghost use Rattle.buffer_texture.specs.Plan.{linearWhy, lacksDepthFact, uploadPlaced, uploadAllowed, uploadRanged, bufferToTexture, downloadPlaced, downloadAllowed, downloadRanged, textureToBuffer};
+ghost use Rattle.buffer_texture.specs.Plan.{lacksDepthFact, bufferToTexture, textureToBuffer};
+ghost use Rattle.buffer_texture.specs.Stages.{uploadPlaced, uploadAllowed, uploadRanged, downloadPlaced, downloadAllowed, downloadRanged};
+ghost use Rattle.buffer_texture.specs.Laws.{EveryCopyLaw};
 use buffer_texture_plans::BufferTexturePlan;
 use flags::BufferUsages;
 use flags::TextureUsages;
@@ -29,15 +31,6 @@ use selectors::TextureCopyBase;
 pub enum BufferTexturePlanned {
     Plan(BufferTexturePlan),
     Refused(TransferError),
-}
-
-fn linear_why(answer: LinearChecked) -> TransferError
-    ensures { λ r. ⌜ r ≡ linearWhy answer ⌝ }
-{
-    match answer {
-        LinearChecked::GoOn(_) => TransferError::SizeOverflow,
-        LinearChecked::Refused(e) => e,
-    }
 }
 
 fn lacks_depth_fact(device: Device, format: u32) -> bool
@@ -99,7 +92,7 @@ fn place_upload(
         size,
     );
     let LinearChecked::GoOn(span) = linear else {
-        return BufferTexturePlanned::Refused(linear_why(linear));
+        return BufferTexturePlanned::Refused(rule_answers::linear_why(linear));
     };
     if lacks_depth_fact(device, t.format) {
         return BufferTexturePlanned::Refused(TransferError::MissingDownlevelFlags(
@@ -139,11 +132,11 @@ fn allow_upload(
     }
     let format = format_rules::validate_texture_copy_dst_format(t.format, aspect);
     let Checked::GoOn = format else {
-        return BufferTexturePlanned::Refused(refusals::why(format));
+        return BufferTexturePlanned::Refused(rule_answers::why(format));
     };
     let rules = format_rules::validate_texture_buffer_copy(aspect, aspects, t, layout, true);
     let Checked::GoOn = rules else {
-        return BufferTexturePlanned::Refused(refusals::why(rules));
+        return BufferTexturePlanned::Refused(rule_answers::why(rules));
     };
     place_upload(device, b, layout, t, view, size, extent, layers, base)
 }
@@ -161,11 +154,11 @@ fn range_upload(
 {
     let ranged = ranges::validate_texture_copy_range(view, t, CopySide::Destination, size);
     let RangeChecked::GoOn(extent, layers) = ranged else {
-        return BufferTexturePlanned::Refused(copies::range_why(ranged));
+        return BufferTexturePlanned::Refused(rule_answers::range_why(ranged));
     };
     let selected = selectors::extract_texture_selector(view, size, t);
     let SelectorChecked::GoOn(_, base) = selected else {
-        return BufferTexturePlanned::Refused(copies::selector_why(selected));
+        return BufferTexturePlanned::Refused(rule_answers::selector_why(selected));
     };
     allow_upload(device, b, layout, t, view, size, extent, layers, base)
 }
@@ -183,11 +176,11 @@ pub fn copy_buffer_to_texture(
 {
     let buffer = records::check_buffer(b, CopySide::Source);
     let Checked::GoOn = buffer else {
-        return BufferTexturePlanned::Refused(refusals::why(buffer));
+        return BufferTexturePlanned::Refused(rule_answers::why(buffer));
     };
     let texture = records::check_texture(t, CopySide::Destination);
     let Checked::GoOn = texture else {
-        return BufferTexturePlanned::Refused(refusals::why(texture));
+        return BufferTexturePlanned::Refused(rule_answers::why(texture));
     };
     range_upload(device, b, layout, t, view, copy_size)
 }
@@ -243,7 +236,7 @@ fn place_download(
         size,
     );
     let LinearChecked::GoOn(span) = linear else {
-        return BufferTexturePlanned::Refused(linear_why(linear));
+        return BufferTexturePlanned::Refused(rule_answers::linear_why(linear));
     };
     if lacks_depth_fact(device, t.format) {
         return BufferTexturePlanned::Refused(TransferError::MissingDownlevelFlags(
@@ -288,11 +281,11 @@ fn allow_download(
     }
     let format = format_rules::validate_texture_copy_src_format(t.format, aspect);
     let Checked::GoOn = format else {
-        return BufferTexturePlanned::Refused(refusals::why(format));
+        return BufferTexturePlanned::Refused(rule_answers::why(format));
     };
     let rules = format_rules::validate_texture_buffer_copy(aspect, aspects, t, layout, true);
     let Checked::GoOn = rules else {
-        return BufferTexturePlanned::Refused(refusals::why(rules));
+        return BufferTexturePlanned::Refused(rule_answers::why(rules));
     };
     place_download(device, b, layout, t, view, size, extent, layers, base)
 }
@@ -310,11 +303,11 @@ fn range_download(
 {
     let ranged = ranges::validate_texture_copy_range(view, t, CopySide::Source, size);
     let RangeChecked::GoOn(extent, layers) = ranged else {
-        return BufferTexturePlanned::Refused(copies::range_why(ranged));
+        return BufferTexturePlanned::Refused(rule_answers::range_why(ranged));
     };
     let selected = selectors::extract_texture_selector(view, size, t);
     let SelectorChecked::GoOn(_, base) = selected else {
-        return BufferTexturePlanned::Refused(copies::selector_why(selected));
+        return BufferTexturePlanned::Refused(rule_answers::selector_why(selected));
     };
     allow_download(device, b, layout, t, view, size, extent, layers, base)
 }
@@ -332,11 +325,16 @@ pub fn copy_texture_to_buffer(
 {
     let texture = records::check_texture(t, CopySide::Source);
     let Checked::GoOn = texture else {
-        return BufferTexturePlanned::Refused(refusals::why(texture));
+        return BufferTexturePlanned::Refused(rule_answers::why(texture));
     };
     let buffer = records::check_buffer(b, CopySide::Destination);
     let Checked::GoOn = buffer else {
-        return BufferTexturePlanned::Refused(refusals::why(buffer));
+        return BufferTexturePlanned::Refused(rule_answers::why(buffer));
     };
     range_download(device, b, layout, t, view, copy_size)
 }
+
+// Asks the check for the law of an accepted copy; nothing runs here.
+pub fn copy_laws()
+    ensures { λ _. ⌜ EveryCopyLaw ⌝ }
+{}

@@ -3,6 +3,7 @@ use Prim.Native.Nat.{ℕ}
 use mathlib.Core.Bool.{Bool}
 use Rattle.checks.specs.Checks.{pick}
 use Rattle.measures.specs.declared.Extent3d.{Extent3d}
+use Rattle.measures.specs.Measure.{isEmpty}
 use Rattle.refusals.specs.declared.CopySide.{CopySide}
 use Rattle.records.specs.declared.TexelCopyBufferLayout.{TexelCopyBufferLayout}
 use Rattle.ranges.specs.declared.CopyExtent.{CopyExtent}
@@ -12,7 +13,6 @@ use Rattle.init.specs.declared.TextureInitRange.{TextureInitRange}
 use Rattle.init.specs.declared.BufferInitRanges.{BufferInitRanges}
 use Rattle.init.specs.declared.OptionRange.the-variants.{Absent}
 use Rattle.init.specs.Init.{bufferInit}
-use Rattle.copies.specs.Copies.{isEmpty}
 use Rattle.buffer_texture_plans.specs.declared.BufferTextureCopy.{BufferTextureCopy}
 use Rattle.buffer_texture_plans.specs.declared.CopyRanges.{CopyRanges}
 use Rattle.buffer_texture_plans.specs.declared.CopyRanges.the-variants as N

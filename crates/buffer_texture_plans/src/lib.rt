@@ -99,7 +99,7 @@ pub fn plan_of(
     requires { ⌜ layout .offset + span .«bytes_in_copy» < 2 ^ 63 ⌝ }
     ensures { λ r. ⌜ r ≡ planOf layout size extent layers base span side texture ⌝ }
 {
-    let empty = copies::is_empty(size);
+    let empty = measures::is_empty(size);
     let region = first_region(layout, base, extent);
     let left = count_of(empty, layers);
     let buffer = init::handle_buffer_init(
@@ -126,7 +126,7 @@ impl BufferTextureCopy {
         let rows_per_image = self.rows_per_image;
         let base = self.base;
         let size = self.size;
-        let on = copies::next_layer(base);
+        let on = selectors::next_layer(base);
         BufferTextureCopy {
             offset: std::num::wrapping_add_u64(self.offset, stride),
             bytes_per_row,

@@ -13,6 +13,7 @@ use lib.Seq.{sets, length-sets, take-all, take-nil, take-append-le, take-append-
 use Rattle.texts.specs.Text.{Put}
 use Rattle.texts.proofs.Puts.{sets-append, put-take, put-length}
 use Rattle.listing.specs.Listing.{Fills, Ends}
+use Rattle.listing.proofs.Whole.{take-least}
 use Rattle.c_listing.specs.Lists.{counted, frontPut, Lists}
 
 -- ---- the front of a text
@@ -36,15 +37,6 @@ module _ (k : ℕ) (a : List ℕ) where
       long h =
           let e : k ≡ length a + (k - length a) = omega arith in
           ap (λ (n : ℕ). take n (a ++ b)) e ∙ take-append-add a b (k - length a) ∙ ap (λ (x : List ℕ). x ++ take (k - length a) b) (sym (take-all k a (omega arith)))
-
-  pub take-least : (n : ℕ) → n ≡ min k (length a) → take n a ≡ take k a
-  take-least n is = either short long
-    where
-      short : k ≤ length a → take n a ≡ take k a
-      short h = ap (λ (m : ℕ). take m a) (is ∙ min-eq-left h)
-
-      long : length a < k → take n a ≡ take k a
-      long h = ap (λ (m : ℕ). take m a) (is ∙ min-eq-right (omega arith)) ∙ take-all (length a) a (omega arith) ∙ sym (take-all k a (omega arith))
 
 -- nothing is put behind the end, whatever the place
 past : (l : List ℕ) (i j n : ℕ) (t : List ℕ) → n ≡ 0 → sets l i (take n t) ≡ sets l j (take n t)
@@ -124,18 +116,18 @@ lists part filled l m before after at count next room f h e n b =
 
 -- ---- all parts: finishing from here gives what the whole gives
 
-pub record Listing (whole first left l : List ℕ) (at : ℕ) : Type 0 where
+pub record Putting (whole first left l : List ℕ) (at : ℕ) : Type 0 where
   pub few : at < 2 ^ 64
   pub same : length l ≡ length first
   pub text : frontPut l at left ≡ frontPut first 0 whole
   pub count : counted (at + length left) ≡ counted (length whole)
 
-pub listing-starts : (whole left l : List ℕ) → left ≡ whole → Listing whole l left l 0
-listing-starts whole left l e = rw e (record { few = omega arith; same = refl; text = refl; count = ap counted (zero-add (length whole)) })
+pub putting-starts : (whole left l : List ℕ) → left ≡ whole → Putting whole l left l 0
+putting-starts whole left l e = rw e (record { few = omega arith; same = refl; text = refl; count = ap counted (zero-add (length whole)) })
 
-module _ {whole first left l : List ℕ} {at : ℕ} (c : Listing whole first left l at) {after m : List ℕ} {count next : ℕ} (p : Lists l m at left after count next) where
-  pub listing-on : length l < 2 ^ 64 → Listing whole first after m next
-  listing-on h =
+module _ {whole first left l : List ℕ} {at : ℕ} (c : Putting whole first left l at) {after m : List ℕ} {count next : ℕ} (p : Lists l m at left after count next) where
+  pub putting-on : length l < 2 ^ 64 → Putting whole first after m next
+  putting-on h =
       let t = p .text in
       let sized : length m ≡ length l = ap length (p .bytes) ∙ length-sets l at (take (length l - at) t) in
       record {
@@ -155,11 +147,11 @@ module _ {whole first left l : List ℕ} {at : ℕ} (c : Listing whole first lef
             ∙ c .count;
       }
 
-  pub listing-same : length m ≡ length first
-  listing-same = ap length (p .bytes) ∙ length-sets l at (take (length l - at) (p .text)) ∙ c .same
+  pub putting-same : length m ≡ length first
+  putting-same = ap length (p .bytes) ∙ length-sets l at (take (length l - at) (p .text)) ∙ c .same
 
-  pub listing-ends : count ≡ 0 → (at ≡ counted (length whole)) × (m ≡ frontPut first 0 whole)
-  listing-ends z =
+  pub putting-ends : count ≡ 0 → (at ≡ counted (length whole)) × (m ≡ frontPut first 0 whole)
+  putting-ends z =
       let none = p .ends z in
       let n : at + length left ≡ at = ap (λ (x : List ℕ). at + length x) none ∙ omega arith in
       let put-nothing : frontPut l at [] ≡ l = ap (λ (x : List ℕ). sets l at x) (take-nil (length l - at)) in
@@ -170,5 +162,5 @@ module _ {whole first left l : List ℕ} {at : ℕ} (c : Listing whole first lef
       nothing [] e = refl
       nothing (x ∷ t) e = absurd (omega arith)
 
-  pub listing-less : (count ≡ 0 → ⊥) → length after < length left
-  listing-less n = omega (arith, ap length (p .left), length-append (p .text) after, p .counts)
+  pub putting-less : (count ≡ 0 → ⊥) → length after < length left
+  putting-less n = omega (arith, ap length (p .left), length-append (p .text) after, p .counts)

@@ -13,7 +13,7 @@ use Rattle.records.specs.declared.Buffer.{Buffer}
 use Rattle.records.specs.declared.Texture.{Texture}
 use Rattle.records.specs.declared.TexelCopyTextureInfo.{TexelCopyTextureInfo}
 use Rattle.records.specs.declared.TexelCopyBufferLayout.{TexelCopyBufferLayout}
-use Rattle.job_records.specs.Records.{aspectOf}
+use Rattle.formats.specs.Aspects.{aspectOf}
 
 -- a number, where it is given
 abbrev pub given : Bool → ℕ → OptionU32

@@ -1,6 +1,6 @@
 // Records and figures from numbers, as callers in other languages hand them.
 ghost use mathlib.Core.Path.{_≡_};
-ghost use Rattle.job_records.specs.Records.{aspectOf};
+ghost use Rattle.formats.specs.Aspects.{aspectOf};
 ghost use Rattle.c_records.specs.CRecords.{given, givenSize, bufferFrom, layoutFrom, textureFrom, viewFrom, sizeFrom};
 use flags::BufferUsages;
 use flags::TextureUsages;
@@ -81,7 +81,7 @@ pub fn texture_from(t: &[u32; 8]) -> Texture
 fn aspect_from(number: u32) -> TextureAspect
     ensures { λ r. ⌜ r ≡ aspectOf number ⌝ }
 {
-    job_records::aspect_of(number as u64)
+    formats::aspect_of(number as u64)
 }
 
 // Level, x, y, z, aspect.

@@ -7,7 +7,7 @@ use Prim.Native.Nat.{ℕ, _+_, _-_, _*_, _%_, _^_, _≤_, _<_}
 use borrow.Author.Tests.{eq-eqb, ne-eqb, le-leb, lt-leb}
 use lib.ListN.{length, set, drop}
 use lib.Seq.{sets}
-use Rattle.formats.specs.Sheet.{PLANE-0, PLANE-1}
+use Rattle.flags.specs.FormatAspects.{PLANE-0, PLANE-1}
 use Rattle.plans.specs.declared.Plan.{Plan}
 use Rattle.plans.specs.Regions.{leftOf, fieldsOf}
 use Rattle.writer.specs.Writing.{numbersLeft, behindAll, fits, slotsOf}

@@ -9,9 +9,9 @@ use borrow.Author.Tests.{ne-eqb}
 use lib.Dec.{eqb}
 use lib.ListN.{drop}
 use Rattle.checks.specs.Checks.{stop-if}
-use Rattle.formats.specs.Sheet.{DEPTH, STENCIL, PLANE-0}
+use Rattle.flags.specs.FormatAspects.{DEPTH, STENCIL, PLANE-0}
 use Rattle.rows.specs.Rows.{bufferCopyNumbers, bufferTextureCopyNumbers, textureCopyNumbers}
-use Rattle.copies.specs.Copies.{nextLayer}
+use Rattle.selectors.specs.Selector.{nextLayer}
 use Rattle.buffer_copies.specs.BufferCopies as K
 use Rattle.buffer_texture_plans.specs.Asking as L
 use Rattle.texture_plans.specs.declared.CopyParts.{CopyParts}

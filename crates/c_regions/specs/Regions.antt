@@ -5,7 +5,7 @@ use mathlib.Core.List.{List}
 use lib.Dec.{eqb}
 use lib.ListN.{getD, set, take, drop}
 use Rattle.checks.specs.Checks.{pick, _$_}
-use Rattle.formats.specs.Sheet.{DEPTH, STENCIL, PLANE-0, PLANE-1}
+use Rattle.flags.specs.FormatAspects.{DEPTH, STENCIL, PLANE-0, PLANE-1}
 use Rattle.words.specs.Words.{bufferWords, bufferTextureWords, textureWords}
 use Rattle.plans.specs.declared.Plan.{Plan}
 use Rattle.plans.specs.declared.Plan.the-variants.{Buffers, BufferTexture, Textures}

@@ -2,7 +2,7 @@
 ghost use mathlib.Core.Path.{_≡_};
 ghost use Prim.Native.Nat.{_+_, _%_, _^_};
 ghost use lib.ListN.{length, replicate, drop};
-ghost use Rattle.formats.specs.Sheet.{PLANE-1};
+ghost use Rattle.flags.specs.FormatAspects.{PLANE-1};
 ghost use Rattle.writer.specs.Writing.{slotsOf};
 ghost use Rattle.plan_words.specs.PlanWords.{buffersFrom, bufferTextureFrom, texturesFrom};
 ghost use Rattle.c_regions.specs.Laws.{EveryStep};

@@ -7,7 +7,7 @@ use lib.ListN.{getD}
 use Rattle.checks.specs.Checks.{pick, stop-if, _$_}
 use Rattle.formats.specs.declared.TextureAspect.the-variants.{Plane2}
 use Rattle.refusals.specs.declared.TransferError.the-variants.{InvalidTextureAspect}
-use Rattle.texture_plans.specs.declared.TextureSide.{TextureSide}
+use Rattle.records.specs.declared.TextureSide.{TextureSide}
 use Rattle.texture_copies.specs.declared.TexturePlanned.{TexturePlanned}
 use Rattle.texture_copies.specs.declared.TexturePlanned.the-variants.{Refused}
 use Rattle.texture_copies.specs.Plan.{textureToTexture}

@@ -7,7 +7,7 @@ use Rattle.measures.specs.declared.Extent3d.{Extent3d}
 use Rattle.refusals.specs.declared.CopySide.the-variants.{Source, Destination}
 use Rattle.records.specs.Bounds.{textureInBounds}
 use Rattle.ranges.specs.Range.{copyExtent, arrayLayerCount}
-use Rattle.texture_plans.specs.declared.TextureSide.{TextureSide}
+use Rattle.records.specs.declared.TextureSide.{TextureSide}
 use Rattle.texture_copies.specs.declared.TexturePlanned.{TexturePlanned}
 use Rattle.texture_copies.specs.Plan.{isPlaneSplit, withinCopy, rangedCopy, matchedCopy}
 use Rattle.c_records.specs.CRecords.{textureFrom, sizeFrom}

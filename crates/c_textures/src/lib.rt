@@ -9,10 +9,10 @@ ghost use Rattle.c_textures.specs.Stages.{Looked, placed, ranged, matche
 use c_sides::SideState;
 use formats::TextureAspect;
 use measures::Extent3d;
+use records::TextureSide;
 use refusals::CopySide;
 use refusals::TransferError;
 use texture_copies::TexturePlanned;
-use texture_plans::TextureSide;
 
 // The numbers past this one name no aspect.
 const LAST_ASPECT: u32 = 5;

@@ -1,38 +1,23 @@
--- Words of flags: usages and aspects.
-use Prim.Native.Nat.{ℕ, _/_, _%_}
-use mathlib.Core.Bool.{Bool, _&&_, _||_}
-use mathlib.Core.List.{List, [], _∷_}
+-- Words of flags: usages and aspects. A flag is a binary digit, and a word may have several.
+use Prim.Native.Nat.{ℕ}
+use mathlib.Core.Bool.{Bool, not, _||_}
+use lib.Bits.{bitAnd}
 use lib.Dec.{eqb}
-use Rattle.checks.specs.Checks.{pick}
+use Rattle.flags.specs.FormatAspects.{COLOR, DEPTH, STENCIL, PLANE-0, PLANE-1, PLANE-2}
 
--- the flag, a power of two, is set in the word
-unfoldable pub holds : ℕ → ℕ → Bool
-holds word flag = eqb (word / flag % 2) 1
+-- every flag of the second word is set in the first
+unfoldable pub contains : ℕ → ℕ → Bool
+contains word flags = eqb (bitAnd word flags) flags
 
--- what a word has of one flag: the flag, or nothing
-unfoldable pub met : ℕ → ℕ → ℕ
-met word flag = pick (holds word flag) flag 0
+-- the flags that are set in both
+unfoldable pub meet : ℕ → ℕ → ℕ
+meet a b = bitAnd a b
 
--- exactly one of the six aspects
-unfoldable pub isOne : ℕ → Bool
-isOne aspects = eqb aspects 1 || (eqb aspects 2 || (eqb aspects 4 || (eqb aspects 8 || (eqb aspects 16 || eqb aspects 32))))
-
--- a flag is set in both words
-unfoldable pub shared : ℕ → ℕ → ℕ → Bool
-shared a b flag = holds a flag && holds b flag
-
--- one of the six aspects is in both
+-- some flag is set in both
 unfoldable pub meets : ℕ → ℕ → Bool
-meets a b = shared a b 1 || (shared a b 2 || (shared a b 4 || (shared a b 8 || (shared a b 16 || shared a b 32))))
+meets a b = not (eqb (bitAnd a b) 0)
 
--- COPY_SRC, COPY_DST, INDEX, VERTEX, UNIFORM, STORAGE, INDIRECT
-abbrev pub bufferUsages : List ℕ
-bufferUsages = 4 ∷ 8 ∷ 16 ∷ 32 ∷ 64 ∷ 128 ∷ 256 ∷ []
-
--- COPY_SRC, COPY_DST
-abbrev pub textureUsages : List ℕ
-textureUsages = 1 ∷ 2 ∷ []
-
--- COLOR, DEPTH, STENCIL, PLANE_0, PLANE_1, PLANE_2, DEPTH_STENCIL
-abbrev pub formatAspects : List ℕ
-formatAspects = 1 ∷ 2 ∷ 4 ∷ 8 ∷ 16 ∷ 32 ∷ 6 ∷ []
+-- exactly one aspect
+unfoldable pub isOne : ℕ → Bool
+isOne aspects =
+    eqb aspects COLOR || (eqb aspects DEPTH || (eqb aspects STENCIL || (eqb aspects PLANE-0 || (eqb aspects PLANE-1 || eqb aspects PLANE-2))))

@@ -1,1 +1,4 @@
+pub mod BufferUsages
+pub mod TextureUsages
+pub mod FormatAspects
 pub mod Flags

@@ -1,8 +1,11 @@
 // Words of flags, with their flags as constants of their type: what a buffer or a texture may be used for, and a
 // format's aspects.
 ghost use mathlib.Core.Path.{_≡_};
-ghost use Prim.Native.Nat.{_<_};
-ghost use Rattle.flags.specs.Flags.{holds, met, isOne, shared, meets, bufferUsages, textureUsages, formatAspects};
+ghost use mathlib.Core.List.{[], _∷_};
+ghost use Rattle.flags.specs.BufferUsages as Buffer;
+ghost use Rattle.flags.specs.TextureUsages as Texture;
+ghost use Rattle.flags.specs.FormatAspects as Aspect;
+ghost use Rattle.flags.specs.Flags.{contains, meet, isOne, meets};
 
 pub struct BufferUsages(pub u32);
 
@@ -10,20 +13,11 @@ pub struct TextureUsages(pub u32);
 
 pub struct FormatAspects(pub u32);
 
-// Whether a single flag is set in a word.
-fn is_set(word: u32, flag: u32) -> bool
-    requires { ⌜ 0 < flag ⌝ }
-    ensures { λ r. ⌜ r ≡ holds word flag ⌝ }
+// Whether every one of the flags is set in the word.
+fn has_all(word: u32, flags: u32) -> bool
+    ensures { λ r. ⌜ r ≡ contains word flags ⌝ }
 {
-    word / flag % 2 == 1
-}
-
-// Whether a single flag is set in both words.
-fn is_shared(a: u32, b: u32, flag: u32) -> bool
-    requires { ⌜ 0 < flag ⌝ }
-    ensures { λ r. ⌜ r ≡ shared a b flag ⌝ }
-{
-    checks::both(is_set(a, flag), is_set(b, flag))
+    word & flags == flags
 }
 
 impl BufferUsages {
@@ -41,9 +35,9 @@ impl BufferUsages {
 
     pub const INDIRECT: BufferUsages = BufferUsages(256);
 
-    // Every flag, in the order above.
-    pub fn flags() -> [u32; 7]
-        ensures { λ r. ⌜ r ≡ bufferUsages ⌝ }
+    // Holds the constants to their names; nothing calls it.
+    fn named() -> [u32; 7]
+        ensures { λ r. ⌜ r ≡ Buffer.COPY-SRC ∷ Buffer.COPY-DST ∷ Buffer.INDEX ∷ Buffer.VERTEX ∷ Buffer.UNIFORM ∷ Buffer.STORAGE ∷ Buffer.INDIRECT ∷ [] ⌝ }
     {
         [
             BufferUsages::COPY_SRC.0,
@@ -56,11 +50,10 @@ impl BufferUsages {
         ]
     }
 
-    pub fn contains(self, flag: BufferUsages) -> bool
-        requires { ⌜ 0 < flag .0 ⌝ }
-        ensures { λ r. ⌜ r ≡ holds (self .0) (flag .0) ⌝ }
+    pub fn contains(self, flags: BufferUsages) -> bool
+        ensures { λ r. ⌜ r ≡ contains (self .0) (flags .0) ⌝ }
     {
-        is_set(self.0, flag.0)
+        has_all(self.0, flags.0)
     }
 }
 
@@ -69,17 +62,16 @@ impl TextureUsages {
 
     pub const COPY_DST: TextureUsages = TextureUsages(2);
 
-    pub fn flags() -> [u32; 2]
-        ensures { λ r. ⌜ r ≡ textureUsages ⌝ }
+    fn named() -> [u32; 2]
+        ensures { λ r. ⌜ r ≡ Texture.COPY-SRC ∷ Texture.COPY-DST ∷ [] ⌝ }
     {
         [TextureUsages::COPY_SRC.0, TextureUsages::COPY_DST.0]
     }
 
-    pub fn contains(self, flag: TextureUsages) -> bool
-        requires { ⌜ 0 < flag .0 ⌝ }
-        ensures { λ r. ⌜ r ≡ holds (self .0) (flag .0) ⌝ }
+    pub fn contains(self, flags: TextureUsages) -> bool
+        ensures { λ r. ⌜ r ≡ contains (self .0) (flags .0) ⌝ }
     {
-        is_set(self.0, flag.0)
+        has_all(self.0, flags.0)
     }
 }
 
@@ -96,10 +88,12 @@ impl FormatAspects {
 
     pub const PLANE_2: FormatAspects = FormatAspects(32);
 
-    pub const DEPTH_STENCIL: FormatAspects = FormatAspects(6);
+    pub const DEPTH_STENCIL: FormatAspects = FormatAspects(
+        FormatAspects::DEPTH.0 | FormatAspects::STENCIL.0,
+    );
 
-    pub fn flags() -> [u32; 7]
-        ensures { λ r. ⌜ r ≡ formatAspects ⌝ }
+    fn named() -> [u32; 7]
+        ensures { λ r. ⌜ r ≡ Aspect.COLOR ∷ Aspect.DEPTH ∷ Aspect.STENCIL ∷ Aspect.PLANE-0 ∷ Aspect.PLANE-1 ∷ Aspect.PLANE-2 ∷ Aspect.DEPTH-STENCIL ∷ [] ⌝ }
     {
         [
             FormatAspects::COLOR.0,
@@ -112,16 +106,18 @@ impl FormatAspects {
         ]
     }
 
-    // The flag where these aspects have it, else none.
-    pub fn meet(self, flag: FormatAspects) -> FormatAspects
-        requires { ⌜ 0 < flag .0 ⌝ }
-        ensures { λ r. ⌜ r .0 ≡ met (self .0) (flag .0) ⌝ }
+    // The aspects that are in both.
+    pub fn meet(self, other: FormatAspects) -> FormatAspects
+        ensures { λ r. ⌜ r .0 ≡ meet (self .0) (other .0) ⌝ }
     {
-        if is_set(self.0, flag.0) {
-            flag
-        } else {
-            FormatAspects(0)
-        }
+        FormatAspects(self.0 & other.0)
+    }
+
+    // Whether some aspect is in both.
+    pub fn meets(self, other: FormatAspects) -> bool
+        ensures { λ r. ⌜ r ≡ meets (self .0) (other .0) ⌝ }
+    {
+        self.0 & other.0 != 0
     }
 
     // Whether these are exactly one aspect.
@@ -129,27 +125,10 @@ impl FormatAspects {
         ensures { λ r. ⌜ r ≡ isOne (self .0) ⌝ }
     {
         let a = self.0;
-        a == 1 || (a == 2 || (a == 4 || (a == 8 || (a == 16 || a == 32))))
-    }
-
-    // Whether some aspect is in both.
-    pub fn meets(self, other: FormatAspects) -> bool
-        ensures { λ r. ⌜ r ≡ meets (self .0) (other .0) ⌝ }
-    {
-        let a = self.0;
-        let b = other.0;
-        checks::either(
-            is_shared(a, b, 1),
-            checks::either(
-                is_shared(a, b, 2),
-                checks::either(
-                    is_shared(a, b, 4),
-                    checks::either(
-                        is_shared(a, b, 8),
-                        checks::either(is_shared(a, b, 16), is_shared(a, b, 32)),
-                    ),
-                ),
-            ),
-        )
+        a == FormatAspects::COLOR.0
+            || (a == FormatAspects::DEPTH.0
+                || (a == FormatAspects::STENCIL.0
+                    || (a == FormatAspects::PLANE_0.0
+                        || (a == FormatAspects::PLANE_1.0 || a == FormatAspects::PLANE_2.0))))
     }
 }

@@ -1,8 +1,11 @@
 -- The aspects that a copy chooses of a format, and what they bring.
 use Prim.Native.Nat.{ℕ}
+use mathlib.Core.List.{[], _∷_}
 use lib.Dec.{eqb}
+use lib.ListN.{getD}
 use Rattle.checks.specs.Checks.{pick, stop-if, _$_}
-use Rattle.flags.specs.Flags.{met}
+use Rattle.flags.specs.Flags.{meet}
+use Rattle.flags.specs.FormatAspects.{COLOR, DEPTH, STENCIL, PLANE-0, PLANE-1, PLANE-2}
 use Rattle.measures.specs.declared.OptionU32.{OptionU32}
 use Rattle.measures.specs.declared.OptionU32.the-variants.{Given, Absent}
 use Rattle.formats.specs.declared.FormatRow.{FormatRow}
@@ -10,27 +13,31 @@ use Rattle.formats.specs.declared.TextureAspect.{TextureAspect}
 use Rattle.formats.specs.declared.TextureAspect.the-variants.{All, StencilOnly, DepthOnly, Plane0, Plane1, Plane2}
 use Rattle.formats.specs.Sheet.{rowOf, aspectsOf, isMultiPlanar, none}
 
+-- the aspect of a number, 0 to 5; a larger one, which callers refuse, counts as 5
+unfoldable pub aspectOf : ℕ → TextureAspect
+aspectOf n = getD (All ∷ StencilOnly ∷ DepthOnly ∷ Plane0 ∷ Plane1 ∷ []) n Plane2
+
 -- a word of aspects met with those asked
 unfoldable pub askedOf : ℕ → TextureAspect → ℕ
 askedOf aspects All = aspects
-askedOf aspects StencilOnly = met aspects 4
-askedOf aspects DepthOnly = met aspects 2
-askedOf aspects Plane0 = met aspects 8
-askedOf aspects Plane1 = met aspects 16
-askedOf aspects Plane2 = met aspects 32
+askedOf aspects StencilOnly = meet aspects STENCIL
+askedOf aspects DepthOnly = meet aspects DEPTH
+askedOf aspects Plane0 = meet aspects PLANE-0
+askedOf aspects Plane1 = meet aspects PLANE-1
+askedOf aspects Plane2 = meet aspects PLANE-2
 
 -- the chosen aspects: the format's bits met with those asked
 unfoldable pub chosenAspects : ℕ → TextureAspect → ℕ
 chosenAspects format asked = askedOf (aspectsOf format) asked
 
--- the bytes of a block of exactly one aspect, colour, depth, stencil, plane 0 or plane 1
+-- the bytes of a block of exactly one aspect that has some
 unfoldable pub bytesOf : FormatRow → ℕ → ℕ
 bytesOf row aspects =
-    stop-if (eqb aspects 1) (row .color) $
-    stop-if (eqb aspects 2) (row .depth) $
-    stop-if (eqb aspects 4) (row .stencil) $
-    stop-if (eqb aspects 8) (row .«plane_0») $
-    stop-if (eqb aspects 16) (row .«plane_1») $
+    stop-if (eqb aspects COLOR) (row .color) $
+    stop-if (eqb aspects DEPTH) (row .depth) $
+    stop-if (eqb aspects STENCIL) (row .stencil) $
+    stop-if (eqb aspects PLANE-0) (row .«plane_0») $
+    stop-if (eqb aspects PLANE-1) (row .«plane_1») $
     none
 
 abbrev pub unlessNone : ℕ → OptionU32

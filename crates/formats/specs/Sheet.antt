@@ -2,35 +2,19 @@
 use Prim.Native.Nat.{ℕ, _-_}
 use mathlib.Core.Bool.{Bool, _&&_}
 use mathlib.Core.List.{List, [], _∷_}
+use lib.Bits.{bitOr}
 use lib.Dec.{eqb, leb, ltb}
 use lib.ListN.{getD, length}
+use Rattle.flags.specs.FormatAspects.{COLOR, DEPTH, STENCIL, DEPTH-STENCIL, PLANE-0, PLANE-1}
 use Rattle.formats.specs.declared.FormatRow.{FormatRow}
 
 -- the bytes of a block where an aspect has none that can be copied, or is not there
 abbrev pub none : ℕ
 none = 0
 
--- the aspects' bits: colour, depth, stencil, depth with stencil, plane 0, plane 1, both planes
-abbrev pub COLOR : ℕ
-COLOR = 1
-
-abbrev pub DEPTH : ℕ
-DEPTH = 2
-
-abbrev pub STENCIL : ℕ
-STENCIL = 4
-
-abbrev pub DEPTH-STENCIL : ℕ
-DEPTH-STENCIL = 6
-
-abbrev pub PLANE-0 : ℕ
-PLANE-0 = 8
-
-abbrev pub PLANE-1 : ℕ
-PLANE-1 = 16
-
+-- both planes
 abbrev pub PLANES : ℕ
-PLANES = 24
+PLANES = bitOr PLANE-0 PLANE-1
 
 -- whether a row is the srgb of the row before it
 abbrev pub linear : ℕ

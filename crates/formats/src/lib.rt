@@ -1,9 +1,10 @@
 // The texture formats by their numbers: blocks, bytes, aspects, planes and srgb pairs.
 ghost use mathlib.Core.Path.{_≡_};
 ghost use mathlib.Core.Bool.{true};
+ghost use Rattle.flags.specs.FormatAspects.{COLOR};
 ghost use Rattle.measures.specs.Measure.{orElse};
 ghost use Rattle.formats.specs.Sheet.{color as colorRow, depthStencil, planar as planarRow, rowOf, isFormat, blockWidth, blockHeight, aspectsOf, isDepthStencil, isCombinedDepthStencil, removeSrgb, isMultiPlanar};
-ghost use Rattle.formats.specs.Aspects.{askedOf, chosenAspects, bytesOf, blockCopySize, planeFormat, aspectSpecificFormat, subsamplingFactor};
+ghost use Rattle.formats.specs.Aspects.{aspectOf, askedOf, chosenAspects, bytesOf, blockCopySize, planeFormat, aspectSpecificFormat, subsamplingFactor};
 ghost use Rattle.formats.specs.Laws.{EveryFormat};
 use flags::FormatAspects;
 use measures::OptionU32;
@@ -29,7 +30,7 @@ pub const DEPTH32_FLOAT_STENCIL8: u32 = 20;
 
 const NV12: u32 = 21;
 
-const PLANES: FormatAspects = FormatAspects(24);
+const PLANES: FormatAspects = FormatAspects(FormatAspects::PLANE_0.0 | FormatAspects::PLANE_1.0);
 
 // What a copy asks for of a texture.
 pub enum TextureAspect {
@@ -163,6 +164,20 @@ pub fn format_aspects(format: u32) -> FormatAspects
     row.aspects
 }
 
+// The aspect of a number, 0 to 5; a larger one, which callers refuse, counts as 5.
+pub fn aspect_of(n: u64) -> TextureAspect
+    ensures { λ r. ⌜ r ≡ aspectOf n ⌝ }
+{
+    match n {
+        0 => TextureAspect::All,
+        1 => TextureAspect::StencilOnly,
+        2 => TextureAspect::DepthOnly,
+        3 => TextureAspect::Plane0,
+        4 => TextureAspect::Plane1,
+        _ => TextureAspect::Plane2,
+    }
+}
+
 fn met_with_asked(aspects: FormatAspects, asked: TextureAspect) -> FormatAspects
     ensures { λ r. ⌜ r .0 ≡ askedOf (aspects .0) asked ⌝ }
 {
@@ -242,7 +257,7 @@ fn bytes_of(format: u32, aspects: FormatAspects) -> u32
 }
 
 fn is_color(aspects: FormatAspects, asked: TextureAspect) -> bool
-    ensures { λ r. ⌜ (r ≡ true → askedOf (aspects .0) asked ≡ 1) ⌝ }
+    ensures { λ r. ⌜ (r ≡ true → askedOf (aspects .0) asked ≡ COLOR) ⌝ }
 {
     match asked {
         TextureAspect::All => aspects.0 == FormatAspects::COLOR.0,

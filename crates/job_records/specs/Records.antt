@@ -1,6 +1,5 @@
 -- Records and figures from a line's values. A value is a number below 2 ^ 64; one that a field of 32 bits holds is below 2 ^ 32.
 use Prim.Native.Nat.{ℕ, _+_, _-_, _%_, _^_}
-use mathlib.Core.List.{List, [], _∷_}
 use lib.Dec.{eqb}
 use lib.ListN.{getD}
 use Rattle.checks.specs.Checks.{pick}
@@ -10,8 +9,7 @@ use Rattle.measures.specs.declared.OptionU32.{OptionU32}
 use Rattle.measures.specs.declared.OptionU32.the-variants as O
 use Rattle.measures.specs.declared.OptionU64.{OptionU64}
 use Rattle.measures.specs.declared.OptionU64.the-variants as L
-use Rattle.formats.specs.declared.TextureAspect.{TextureAspect}
-use Rattle.formats.specs.declared.TextureAspect.the-variants.{All, StencilOnly, DepthOnly, Plane0, Plane1, Plane2}
+use Rattle.formats.specs.Aspects.{aspectOf}
 use Rattle.records.specs.declared.Buffer.{Buffer}
 use Rattle.records.specs.declared.Device.{Device}
 use Rattle.records.specs.declared.Texture.{Texture}
@@ -32,12 +30,6 @@ wordOrAbsent l i = pick (eqb (valueOf l i) (2 ^ 64 - 1)) O.Absent (O.Given (word
 -- a size of 64 bits may be that number, so the line says whether it is absent
 unfoldable pub sizeOf : Line → OptionU64
 sizeOf l = pick (l .gone) L.Absent (L.Given (valueOf l 5))
-
-unfoldable pub aspects : List TextureAspect
-aspects = All ∷ StencilOnly ∷ DepthOnly ∷ Plane0 ∷ Plane1 ∷ []
-
-unfoldable pub aspectOf : ℕ → TextureAspect
-aspectOf n = getD aspects n Plane2
 
 unfoldable pub extentOf : Line → ℕ → Extent3d
 extentOf l i = record { width = wordOf l i; height = wordOf l (i + 1); «depth_or_array_layers» = wordOf l (i + 2) }

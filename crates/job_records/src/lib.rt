@@ -1,11 +1,10 @@
 // Records and figures from the values of a job sheet's line.
 ghost use mathlib.Core.Path.{_≡_};
 ghost use Prim.Native.Nat.{_<_, _+_};
-ghost use Rattle.job_records.specs.Records.{valueOf, wordOf, wordOrAbsent, sizeOf, aspectOf, extentOf, originOf, deviceOf, textureOf, bufferOf, viewOf, layoutOf};
+ghost use Rattle.job_records.specs.Records.{valueOf, wordOf, wordOrAbsent, sizeOf, extentOf, originOf, deviceOf, textureOf, bufferOf, viewOf, layoutOf};
 use fields::Line;
 use flags::BufferUsages;
 use flags::TextureUsages;
-use formats::TextureAspect;
 use measures::Extent3d;
 use measures::OptionU32;
 use measures::OptionU64;
@@ -49,19 +48,6 @@ pub fn size_of(l: Line) -> OptionU64
         return OptionU64::Absent;
     }
     OptionU64::Given(value_of(l, 5))
-}
-
-pub fn aspect_of(n: u64) -> TextureAspect
-    ensures { λ r. ⌜ r ≡ aspectOf n ⌝ }
-{
-    match n {
-        0 => TextureAspect::All,
-        1 => TextureAspect::StencilOnly,
-        2 => TextureAspect::DepthOnly,
-        3 => TextureAspect::Plane0,
-        4 => TextureAspect::Plane1,
-        _ => TextureAspect::Plane2,
-    }
 }
 
 pub fn extent_of(l: Line, i: usize) -> Extent3d
@@ -126,7 +112,7 @@ pub fn view_of(l: Line, i: usize) -> TexelCopyTextureInfo
     ensures { λ r. ⌜ r ≡ viewOf l i ⌝ }
 {
     let origin = origin_of(l, i + 1);
-    let aspect = aspect_of(value_of(l, i + 4));
+    let aspect = formats::aspect_of(value_of(l, i + 4));
     TexelCopyTextureInfo {
         mip_level: word_of(l, i),
         origin,

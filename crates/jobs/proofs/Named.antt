@@ -5,23 +5,36 @@ use mathlib.Core.List.{List}
 use Prim.Native.Nat.{ℕ}
 use borrow.Author.Tests.{eq-eqb, ne-eqb}
 use lib.Dec.{eqb}
+use Rattle.measures.specs.declared.Extent3d.{Extent3d}
+use Rattle.measures.specs.declared.OptionU64.{OptionU64}
 use Rattle.records.specs.declared.Buffer.{Buffer}
 use Rattle.records.specs.declared.Device.{Device}
 use Rattle.records.specs.declared.Texture.{Texture}
-use Rattle.requests.specs.declared.BufferTextureRequest.{BufferTextureRequest}
-use Rattle.requests.specs.declared.Request.{Request}
+use Rattle.records.specs.declared.TexelCopyTextureInfo.{TexelCopyTextureInfo}
+use Rattle.records.specs.declared.TexelCopyBufferLayout.{TexelCopyBufferLayout}
 use Rattle.requests.specs.declared.Planned.{Planned}
-use Rattle.requests.specs.Requests.{plannedOf}
+use Rattle.requests.specs.Requests.{plannedBuffers, plannedUpload, plannedDownload}
 use Rattle.fields.specs.declared.Line.{Line}
-use Rattle.job_records.specs.Records.{valueOf, wordOf}
-use Rattle.jobs.specs.Jobs.{textureAt, bufferAt, copyRequest, eitherWay, namedCopy, buffersPlanned, copyPlanned, texturesPlanned, linePlanned}
+use Rattle.job_records.specs.Records.{valueOf, wordOf, sizeOf, extentOf, viewOf, layoutOf}
+use Rattle.jobs.specs.Jobs.{textureAt, bufferAt, namedBuffers, namedCopy, buffersPlanned, copyPlanned, texturesPlanned, linePlanned}
 
-pub named-copy :
-    (s ts bs : List ℕ) (device : Device) (l : Line) (i j v : ℕ) (b : Buffer) (t : Texture) (r : BufferTextureRequest) (q : Request)
-    → i ≡ wordOf l 1 → b ≡ bufferAt s bs i → j ≡ wordOf l 5 → t ≡ textureAt s ts j → r ≡ copyRequest device l b t
-    → v ≡ valueOf l 0 → q ≡ eitherWay (eqb v 2) r → plannedOf q ≡ namedCopy s ts bs device l
-unfolding namedCopy
-named-copy s ts bs device l i j v b t r q hi hb hj ht hr hv hq = rw (hq, hv, hr, ht, hj, hb, hi)
+pub named-buffers :
+    (s bs : List ℕ) (device : Device) (l : Line) (i j from to : ℕ) (src dst : Buffer) (size : OptionU64)
+    → i ≡ wordOf l 1 → j ≡ wordOf l 3 → src ≡ bufferAt s bs i → dst ≡ bufferAt s bs j → from ≡ valueOf l 2 → to ≡ valueOf l 4 → size ≡ sizeOf l
+    → plannedBuffers device i src from j dst to size ≡ namedBuffers s bs device l
+unfolding namedBuffers
+named-buffers s bs device l i j from to src dst size hi hj hs hd hf ht hn = rw (hs, hd, hf, ht, hn, hi, hj)
+
+module _ (s ts bs : List ℕ) (device : Device) (l : Line) {i j kind : ℕ} {b : Buffer} {t : Texture} {layout : TexelCopyBufferLayout} {view : TexelCopyTextureInfo} {size : Extent3d}
+    (hi : i ≡ wordOf l 1) (hj : j ≡ wordOf l 5) (hb : b ≡ bufferAt s bs i) (ht : t ≡ textureAt s ts j)
+    (hl : layout ≡ layoutOf l) (hv : view ≡ viewOf l 6) (hn : size ≡ extentOf l 11) (is : kind ≡ valueOf l 0) where
+  pub named-upload : kind ≡ 2 → plannedUpload device i b layout j t view size ≡ namedCopy s ts bs device l
+  unfolding namedCopy
+  named-upload e = rw (← is, eq-eqb kind 2 e, hb, ht, hl, hv, hn, hi, hj)
+
+  pub named-download : (kind ≡ 2 → ⊥) → plannedDownload device j t view i b layout size ≡ namedCopy s ts bs device l
+  unfolding namedCopy
+  named-download e = rw (← is, ne-eqb kind 2 e, hb, ht, hl, hv, hn, hi, hj)
 
 -- by the line's kind
 module _ (s ts bs : List ℕ) (device : Device) (l : Line) (kind : ℕ) (is : kind ≡ valueOf l 0) (r : Planned) where

@@ -1,6 +1,6 @@
 -- A copy line and the records that it names: an index past its section is 1, before the records; else the copy's answer.
 -- The sheet is its bytes s; a section's records are found by the places where their lines begin.
-use Prim.Native.Nat.{ℕ}
+use Prim.Native.Nat.{ℕ, _+_}
 use mathlib.Core.Bool.{Bool}
 use mathlib.Core.List.{List}
 use lib.Dec.{eqb, leb}
@@ -10,13 +10,10 @@ use Rattle.refusals.specs.declared.TransferError.the-variants.{InvalidSheetInde
 use Rattle.records.specs.declared.Buffer.{Buffer}
 use Rattle.records.specs.declared.Device.{Device}
 use Rattle.records.specs.declared.Texture.{Texture}
-use Rattle.texture_plans.specs.declared.TextureSide.{TextureSide}
-use Rattle.requests.specs.declared.BufferTextureRequest.{BufferTextureRequest}
-use Rattle.requests.specs.declared.Request.{Request}
-use Rattle.requests.specs.declared.Request.the-variants as Q
+use Rattle.records.specs.declared.TextureSide.{TextureSide}
 use Rattle.requests.specs.declared.Planned.{Planned}
 use Rattle.requests.specs.declared.Planned.the-variants as P
-use Rattle.requests.specs.Requests.{plannedOf}
+use Rattle.requests.specs.Requests.{plannedBuffers, plannedUpload, plannedDownload, plannedTextures}
 use Rattle.fields.specs.declared.Line.{Line}
 use Rattle.sheet.specs.Rows.{textures, buffers, rowOf}
 use Rattle.job_records.specs.Records.{valueOf, wordOf, sizeOf, extentOf, textureOf, bufferOf, viewOf, layoutOf}
@@ -27,56 +24,20 @@ textureAt s places k = textureOf (rowOf s textures (getD places k 0))
 unfoldable pub bufferAt : List ℕ → List ℕ → ℕ → Buffer
 bufferAt s places k = bufferOf (rowOf s buffers (getD places k 0))
 
--- ---- the copy that a line asks for, with its records
+-- from field i on: texture, level, x, y, z, aspect
+unfoldable pub sideAt : List ℕ → List ℕ → Line → ℕ → TextureSide
+sideAt s places l i = record { texture = textureAt s places (wordOf l i); view = viewOf l (i + 1) }
 
--- `1 src offset dst offset size`
-unfoldable pub bufferRequest : Device → Line → Buffer → Buffer → Request
-bufferRequest device l src dst =
-    Q.BufferToBuffer
-    (record {
-      device = device;
-      «src_index» = wordOf l 1;
-      src = src;
-      «src_offset» = valueOf l 2;
-      «dst_index» = wordOf l 3;
-      dst = dst;
-      «dst_offset» = valueOf l 4;
-      size = sizeOf l;
-    })
-
--- `2` or `3 buffer offset bytes rows texture level x y z aspect w h d`
-unfoldable pub copyRequest : Device → Line → Buffer → Texture → BufferTextureRequest
-copyRequest device l b t =
-    record {
-      device = device;
-      «buffer_index» = wordOf l 1;
-      buffer = b;
-      layout = layoutOf l;
-      «texture_index» = wordOf l 5;
-      texture = t;
-      view = viewOf l 6;
-      size = extentOf l 11;
-    }
-
-unfoldable pub eitherWay : Bool → BufferTextureRequest → Request
-eitherWay uploads r = pick uploads (Q.BufferToTexture r) (Q.TextureToBuffer r)
-
--- `4`, then texture, level, x, y, z, aspect twice, then w h d
-unfoldable pub sideOf : Line → ℕ → Texture → TextureSide
-sideOf l i t = record { texture = t; view = viewOf l i }
-
-unfoldable pub textureRequest : Line → Texture → Texture → Request
-textureRequest l from to =
-    Q.TextureToTexture (record { «src_index» = wordOf l 1; src = sideOf l 2 from; «dst_index» = wordOf l 7; dst = sideOf l 8 to; size = extentOf l 13 })
-
--- ---- its answer
+-- ---- the answer to a line
 
 -- an index past its section
 unfoldable pub past : List ℕ → ℕ → Bool
 past places k = leb (length places) k
 
+-- `1 src offset dst offset size`
 unfoldable pub namedBuffers : List ℕ → List ℕ → Device → Line → Planned
-namedBuffers s bs device l = plannedOf (bufferRequest device l (bufferAt s bs (wordOf l 1)) (bufferAt s bs (wordOf l 3)))
+namedBuffers s bs device l =
+    plannedBuffers device (wordOf l 1) (bufferAt s bs (wordOf l 1)) (valueOf l 2) (wordOf l 3) (bufferAt s bs (wordOf l 3)) (valueOf l 4) (sizeOf l)
 
 unfoldable pub buffersPlanned : List ℕ → List ℕ → Device → Line → Planned
 buffersPlanned s bs device l =
@@ -84,9 +45,11 @@ buffersPlanned s bs device l =
     stop-if (past bs (wordOf l 3)) (P.Refused InvalidSheetIndex) $
     namedBuffers s bs device l
 
+-- `2` or `3 buffer offset bytes rows texture level x y z aspect w h d`
 unfoldable pub namedCopy : List ℕ → List ℕ → List ℕ → Device → Line → Planned
 namedCopy s ts bs device l =
-    plannedOf (eitherWay (eqb (valueOf l 0) 2) (copyRequest device l (bufferAt s bs (wordOf l 1)) (textureAt s ts (wordOf l 5))))
+    pick (eqb (valueOf l 0) 2) (plannedUpload device (wordOf l 1) (bufferAt s bs (wordOf l 1)) (layoutOf l) (wordOf l 5) (textureAt s ts (wordOf l 5)) (viewOf l 6) (extentOf l 11)) $
+    plannedDownload device (wordOf l 5) (textureAt s ts (wordOf l 5)) (viewOf l 6) (wordOf l 1) (bufferAt s bs (wordOf l 1)) (layoutOf l) (extentOf l 11)
 
 unfoldable pub copyPlanned : List ℕ → List ℕ → List ℕ → Device → Line → Planned
 copyPlanned s ts bs device l =
@@ -94,8 +57,9 @@ copyPlanned s ts bs device l =
     stop-if (past ts (wordOf l 5)) (P.Refused InvalidSheetIndex) $
     namedCopy s ts bs device l
 
+-- `4`, then texture, level, x, y, z, aspect twice, then w h d
 unfoldable pub namedTextures : List ℕ → List ℕ → Line → Planned
-namedTextures s ts l = plannedOf (textureRequest l (textureAt s ts (wordOf l 1)) (textureAt s ts (wordOf l 7)))
+namedTextures s ts l = plannedTextures (wordOf l 1) (sideAt s ts l 1) (wordOf l 7) (sideAt s ts l 7) (extentOf l 13)
 
 unfoldable pub texturesPlanned : List ℕ → List ℕ → Line → Planned
 texturesPlanned s ts l =

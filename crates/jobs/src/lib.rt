@@ -3,18 +3,14 @@ ghost use mathlib.Core.Path.{_≡_};
 ghost use Prim.Native.Nat.{_<_, _+_};
 ghost use lib.ListN.{getD};
 ghost use Rattle.job_records.specs.Records.{wordOf};
-ghost use Rattle.jobs.specs.Jobs.{textureAt, bufferAt, bufferRequest, copyRequest, eitherWay, sideOf, textureRequest, past, namedBuffers, namedCopy, namedTextures, buffersPlanned, copyPlanned, texturesPlanned, linePlanned};
+ghost use Rattle.jobs.specs.Jobs.{textureAt, bufferAt, sideAt, past, namedBuffers, namedCopy, namedTextures, buffersPlanned, copyPlanned, texturesPlanned, linePlanned};
 use fields::Line;
 use records::Buffer;
 use records::Device;
 use records::Texture;
+use records::TextureSide;
 use refusals::TransferError;
-use requests::BufferRequest;
-use requests::BufferTextureRequest;
 use requests::Planned;
-use requests::Request;
-use requests::TextureRequest;
-use texture_plans::TextureSide;
 
 fn is_past(places: &[usize], l: Line, i: usize) -> bool
     requires { ⌜ i < 16 ⌝ }
@@ -47,78 +43,26 @@ fn buffer_at(s: &[u8], places: &[usize], k: u32) -> Buffer
     job_records::buffer_of(sheet::read_row(s, sheet::BUFFERS, at))
 }
 
-fn buffer_request(device: Device, l: Line, src: Buffer, dst: Buffer) -> Request
-    ensures { λ r. ⌜ r ≡ bufferRequest device l src dst ⌝ }
+// One side of a copy between textures: from field i on the texture, and the part of it.
+fn side_at(s: &[u8], textures: &[usize], l: Line, i: usize) -> TextureSide
+    requires { ⌜ i + 5 < 16 ⌝ }
+    ensures { λ r. ⌜ r ≡ sideAt (now (s .entry)) (now (textures .entry)) l i ⌝ }
 {
-    let size = job_records::size_of(l);
-    Request::BufferToBuffer(BufferRequest {
-        device,
-        src_index: job_records::word_of(l, 1),
-        src,
-        src_offset: job_records::value_of(l, 2),
-        dst_index: job_records::word_of(l, 3),
-        dst,
-        dst_offset: job_records::value_of(l, 4),
-        size,
-    })
-}
-
-fn copy_request(device: Device, l: Line, b: Buffer, t: Texture) -> BufferTextureRequest
-    ensures { λ r. ⌜ r ≡ copyRequest device l b t ⌝ }
-{
-    let layout = job_records::layout_of(l);
-    let view = job_records::view_of(l, 6);
-    let size = job_records::extent_of(l, 11);
-    BufferTextureRequest {
-        device,
-        buffer_index: job_records::word_of(l, 1),
-        buffer: b,
-        layout,
-        texture_index: job_records::word_of(l, 5),
-        texture: t,
-        view,
-        size,
-    }
-}
-
-fn either_way(uploads: bool, r: BufferTextureRequest) -> Request
-    ensures { λ q. ⌜ q ≡ eitherWay uploads r ⌝ }
-{
-    if uploads {
-        return Request::BufferToTexture(r);
-    }
-    Request::TextureToBuffer(r)
-}
-
-fn side_of(l: Line, i: usize, t: Texture) -> TextureSide
-    requires { ⌜ i + 4 < 16 ⌝ }
-    ensures { λ r. ⌜ r ≡ sideOf l i t ⌝ }
-{
-    let view = job_records::view_of(l, i);
-    TextureSide { texture: t, view }
-}
-
-fn texture_request(l: Line, from: Texture, to: Texture) -> Request
-    ensures { λ r. ⌜ r ≡ textureRequest l from to ⌝ }
-{
-    let src = side_of(l, 2, from);
-    let dst = side_of(l, 8, to);
-    let size = job_records::extent_of(l, 13);
-    Request::TextureToTexture(TextureRequest {
-        src_index: job_records::word_of(l, 1),
-        src,
-        dst_index: job_records::word_of(l, 7),
-        dst,
-        size,
-    })
+    let texture = texture_at(s, textures, job_records::word_of(l, i));
+    let view = job_records::view_of(l, i + 1);
+    TextureSide { texture, view }
 }
 
 fn plan_named_buffers(s: &[u8], buffers: &[usize], device: Device, l: Line) -> Planned
     ensures { λ r. ⌜ r ≡ namedBuffers (now (s .entry)) (now (buffers .entry)) device l ⌝ }
 {
-    let src = buffer_at(s, buffers, job_records::word_of(l, 1));
-    let dst = buffer_at(s, buffers, job_records::word_of(l, 3));
-    requests::plan_copy(buffer_request(device, l, src, dst))
+    let i = job_records::word_of(l, 1);
+    let j = job_records::word_of(l, 3);
+    let src = buffer_at(s, buffers, i);
+    let dst = buffer_at(s, buffers, j);
+    let from = job_records::value_of(l, 2);
+    let to = job_records::value_of(l, 4);
+    requests::plan_buffers(device, i, src, from, j, dst, to, job_records::size_of(l))
 }
 
 fn plan_buffers(s: &[u8], buffers: &[usize], device: Device, l: Line) -> Planned
@@ -142,10 +86,17 @@ fn plan_named_copy(
 ) -> Planned
     ensures { λ r. ⌜ r ≡ namedCopy (now (s .entry)) (now (textures .entry)) (now (buffers .entry)) device l ⌝ }
 {
-    let b = buffer_at(s, buffers, job_records::word_of(l, 1));
-    let t = texture_at(s, textures, job_records::word_of(l, 5));
-    let request = copy_request(device, l, b, t);
-    requests::plan_copy(either_way(job_records::value_of(l, 0) == 2, request))
+    let i = job_records::word_of(l, 1);
+    let j = job_records::word_of(l, 5);
+    let buffer = buffer_at(s, buffers, i);
+    let texture = texture_at(s, textures, j);
+    let layout = job_records::layout_of(l);
+    let view = job_records::view_of(l, 6);
+    let size = job_records::extent_of(l, 11);
+    if job_records::value_of(l, 0) == 2 {
+        return requests::plan_upload(device, i, buffer, layout, j, texture, view, size);
+    }
+    requests::plan_download(device, j, texture, view, i, buffer, layout, size)
 }
 
 fn plan_buffer_texture(
@@ -169,9 +120,16 @@ fn plan_buffer_texture(
 fn plan_named_textures(s: &[u8], textures: &[usize], l: Line) -> Planned
     ensures { λ r. ⌜ r ≡ namedTextures (now (s .entry)) (now (textures .entry)) l ⌝ }
 {
-    let from = texture_at(s, textures, job_records::word_of(l, 1));
-    let to = texture_at(s, textures, job_records::word_of(l, 7));
-    requests::plan_copy(texture_request(l, from, to))
+    let src = side_at(s, textures, l, 1);
+    let dst = side_at(s, textures, l, 7);
+    let size = job_records::extent_of(l, 13);
+    requests::plan_textures(
+        job_records::word_of(l, 1),
+        src,
+        job_records::word_of(l, 7),
+        dst,
+        size,
+    )
 }
 
 fn plan_textures(s: &[u8], textures: &[usize], l: Line) -> Planned

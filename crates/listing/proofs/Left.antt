@@ -10,9 +10,6 @@ use lib.Dec.{ltb}
 use lib.ListN.{length, length-append}
 use lib.Seq.{sets}
 use Rattle.sheet.specs.Rows.{copies, rowOf}
-use Rattle.sheet.specs.declared.Sheet.{Sheet}
-use Rattle.sheet.specs.declared.Sheet.the-variants as W
-use Rattle.sheet.specs.Sheet.{sheetOf}
 use Rattle.plans.specs.declared.Plan.{Plan}
 use Rattle.plans.specs.Regions.{leftOf, behindOf}
 use Rattle.plans.proofs.Behind.{behind-left}
@@ -21,7 +18,7 @@ use Rattle.texts.proofs.Puts.{put-none, put-then, put-length}
 use Rattle.lines.specs.Lines.{sheetText, answerText, regionText}
 use Rattle.lines.proofs.LineLaws.{sheet-few, region-few, answer-few, sheet-some, region-some, answer-some}
 use Rattle.listing.specs.declared.Lister.{Lister}
-use Rattle.listing.specs.Listing.{regionsText, noPlan, planOf, copyAnswer, answerAt, copiesText, stateWith, answerOf, pieceOf, nextOf, textLeft, Fills, Ends, Gives, ended, filled, illState, begunAt, textureLines, bufferLines, listingFrom, listingOf, Listed}
+use Rattle.listing.specs.Listing.{regionsText, noPlan, planOf, copyAnswer, answerAt, copiesText, stateWith, answerOf, pieceOf, nextOf, textLeft, Fills, Ends}
 use Rattle.listing.proofs.Pieces.{piece-ill, next-ill, piece-region, next-region, piece-copy, next-copy, piece-none, next-none}
 
 -- ---- by cases on a state
@@ -186,28 +183,6 @@ module _ {s ts bs : List ℕ} {first st : Lister} {l₀ l : List ℕ} {at : ℕ}
       length l - at < 1024
       → Fills l₀ l at (textLeft s ts bs first) (textLeft s ts bs st) × ((at ≤ length l) × Ends (length l₀) at (textLeft s ts bs first))
   filling-ends full = (f .fills, (f .inside, λ r z. absurd (omega (arith, f .same))))
-
--- ---- the texts put, in their order, are the listing
-
-gives-left : (s ts bs : List ℕ) (st : Lister) (t : List ℕ) → Gives s ts bs st t → t ≡ textLeft s ts bs st
-gives-left s ts bs st [] (ended e) = sym e
-gives-left s ts bs st t (filled {next = q} {rest = r} f g) = ap (λ (x : List ℕ). f .text ++ x) (gives-left s ts bs q r g) ∙ sym (f .left)
-
-begun-left : (s : List ℕ) (w : Sheet) → textLeft s (textureLines s w) (bufferLines s w) (begunAt s w) ≡ listingFrom s w
-unfolding textLeft begunAt illState listingFrom textureLines bufferLines regionsText leftOf noPlan
-begun-left s (W.Good p) = refl
-begun-left s (W.Ill n) = refl
-
--- the first state has the whole listing left
-pub begun-listing :
-    (s ts bs : List ℕ) (w : Sheet) (st : Lister) → st ≡ begunAt s w → w ≡ sheetOf s → ts ≡ textureLines s w → bs ≡ bufferLines s w
-    → textLeft s ts bs st ≡ listingOf s
-unfolding listingOf
-begun-listing s ts bs w st begun is t b = rw (begun, t, b) (begun-left s w ∙ ap (listingFrom s) is)
-
-pub listed : Listed
-unfolding listingOf
-listed s t g = gives-left s (textureLines s (sheetOf s)) (bufferLines s (sheetOf s)) (begunAt s (sheetOf s)) t g ∙ begun-left s (sheetOf s)
 
 pub fills-count : {l m : List ℕ} {n : ℕ} {a b : List ℕ} → Fills l m n a b → length a ≡ n + length b
 fills-count {b = b} f = omega (arith, ap length (f .left), length-append (f .text) b, f .put .next)

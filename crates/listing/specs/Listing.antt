@@ -1,9 +1,10 @@
 -- The whole listing of a sheet, from its bytes; and the state between one piece of it and the next.
 use mathlib.Core.Path.{_≡_}
-use mathlib.Core.Bool.{true, false}
+use mathlib.Core.Bool.{false}
 use mathlib.Core.List.{List, [], _∷_, _++_}
 use Prim.Native.Nat.{ℕ, zero, suc, _-_, _≤_}
 use lib.Dec.{ltb}
+use lib.ListN.{take}
 use Rattle.checks.specs.Checks.{pick, _$_}
 use Rattle.init.specs.declared.OptionRange.the-variants.{Absent}
 use Rattle.records.specs.declared.Device.{Device}
@@ -21,6 +22,7 @@ use Rattle.job_records.specs.Records.{deviceOf}
 use Rattle.jobs.specs.Jobs.{linePlanned}
 use Rattle.texts.specs.Text.{Put}
 use Rattle.listing.specs.declared.Lister.{Lister}
+use Rattle.listing.specs.declared.Listing.{Listing}
 use Rattle.lines.specs.Lines.{pieceBytes, sheetText, answerText, regionText}
 
 -- ---- the whole
@@ -81,32 +83,6 @@ listingOf s = listingFrom s (sheetOf s)
 
 -- ---- piece by piece
 
-unfoldable pub illState : ℕ → Lister
-illState n =
-    record {
-      ill = true;
-      line = n;
-      total = 0;
-      left = 0;
-      at = 0;
-      device = record { «depth_texture_and_buffer_copies» = false; «unrestricted_index_buffer» = false };
-      plan = noPlan;
-    }
-
--- the state before the first piece
-unfoldable pub begunAt : List ℕ → Sheet → Lister
-begunAt s (W.Good p) =
-    record {
-      ill = false;
-      line = 0;
-      total = p .copies .count;
-      left = p .copies .count;
-      at = p .copies .first;
-      device = deviceAt s p;
-      plan = noPlan;
-    }
-begunAt s (W.Ill n) = illState n
-
 unfoldable pub stateWith : Lister → ℕ → ℕ → Plan → Lister
 stateWith st left at plan = record { ill = false; line = 0; total = st .total; left = left; at = at; device = st .device; plan = plan }
 
@@ -137,6 +113,10 @@ module _ (s ts bs : List ℕ) (st : Lister) where
       pick (st .ill) (sheetText (st .line)) $
       regionsText (leftOf (st .plan)) (st .plan) ++ copiesText s ts bs (st .device) (st .total) (st .left) (st .at)
 
+-- all that is left of a listing, which holds the places of its texture and buffer lines
+unfoldable pub restOf : List ℕ → Listing → List ℕ
+restOf s st = textLeft s (take (st .«texture_count») (st .textures)) (take (st .«buffer_count») (st .buffers)) (st .lister)
+
 -- some of what was left is put at a slice's start, and nothing behind it changes
 pub record Fills (l m : List ℕ) (count : ℕ) (before after : List ℕ) : Type 0 where
   pub text : List ℕ
@@ -148,22 +128,13 @@ abbrev pub Ends : ℕ → ℕ → List ℕ → Type 0
 Ends room count left = pieceBytes ≤ room → count ≡ 0 → left ≡ []
 
 -- filling slices one after another, until nothing is left, gives the texts put, in their order, as one
-pub data Gives (s ts bs : List ℕ) : Lister → List ℕ → Type 0 where
-  ended : {st : Lister} → textLeft s ts bs st ≡ [] → Gives s ts bs st []
+pub data Gives (s : List ℕ) : Listing → List ℕ → Type 0 where
+  ended : {st : Listing} → restOf s st ≡ [] → Gives s st []
   filled :
-      {st next : Lister} {l m : List ℕ} {count : ℕ} {rest : List ℕ} → (f : Fills l m count (textLeft s ts bs st) (textLeft s ts bs next))
-      → Gives s ts bs next rest → Gives s ts bs st (f .text ++ rest)
+      {st next : Listing} {l m : List ℕ} {count : ℕ} {rest : List ℕ} → (f : Fills l m count (restOf s st) (restOf s next))
+      → Gives s next rest → Gives s st (f .text ++ rest)
 
--- where texture and buffer lines begin; an ill sheet has none
-unfoldable pub textureLines : List ℕ → Sheet → List ℕ
-textureLines s (W.Good p) = texturePlaces s p
-textureLines s (W.Ill n) = []
-
-unfoldable pub bufferLines : List ℕ → Sheet → List ℕ
-bufferLines s (W.Good p) = bufferPlaces s p
-bufferLines s (W.Ill n) = []
-
--- whatever the bytes, and whatever slices are lent: the texts put are the listing, all of it and nothing else
+-- whatever the bytes, and whatever slices are lent: where the whole listing is left, as at the start, the texts put are the listing, all
+-- of it and nothing else
 abbrev pub Listed : Type 0
-Listed =
-    (s text : List ℕ) → Gives s (textureLines s (sheetOf s)) (bufferLines s (sheetOf s)) (begunAt s (sheetOf s)) text → text ≡ listingOf s
+Listed = (s text : List ℕ) (st : Listing) → restOf s st ≡ listingOf s → Gives s st text → text ≡ listingOf s

@@ -1,10 +1,12 @@
 // The listing of a job sheet, made piece by piece into what the caller lends.
 ghost use mathlib.Core.Path.{_≡_};
-ghost use Prim.Native.Nat.{_+_, _-_, _≤_};
+ghost use mathlib.Core.List.{List};
+ghost use Prim.Native.Nat.{ℕ, _+_, _-_, _≤_, min};
 ghost use lib.ListN.{length};
+ghost use Rattle.sheet.specs.Sheet.{sheetOf};
 ghost use Rattle.texts.specs.Text.{Put};
-ghost use Rattle.lines.specs.Lines.{pieceBytes};
-ghost use Rattle.listing.specs.Listing.{noPlan, planOf, deviceAt, answerOf, illState, begunAt, pieceOf, stateWith, nextOf, textLeft, Fills, Ends, Listed};
+ghost use Rattle.lines.specs.Lines.{pieceBytes, sheetText};
+ghost use Rattle.listing.specs.Listing.{noPlan, planOf, deviceAt, answerOf, pieceOf, stateWith, nextOf, textLeft, restOf, listingOf, Fills, Ends, Listed};
 use buffer_copies::BufferCopy;
 use buffer_copies::BufferPlan;
 use init::OptionRange;
@@ -15,7 +17,7 @@ use sheet::Parts;
 use sheet::Sheet;
 
 // Room for any piece.
-pub const PIECE_BYTES: usize = 1024;
+const PIECE_BYTES: usize = 1024;
 
 // Where the listing is: the line of a sheet that is ill; or how many copies there are, how many are left and where the next
 // one's line begins, with what is left of the last one's regions.
@@ -35,10 +37,25 @@ pub struct Stepped {
     pub lister: Lister,
 }
 
+// How many bytes of pieces were put, and where the listing is behind them.
+pub struct PiecesPut {
+    pub count: usize,
+    pub lister: Lister,
+}
+
+// All that a listing goes on from: where the sheet's texture and buffer lines begin, how many there are, and where the listing is.
+pub struct Listing {
+    pub textures: [usize; sheet::MAX_RECORDS],
+    pub texture_count: usize,
+    pub buffers: [usize; sheet::MAX_RECORDS],
+    pub buffer_count: usize,
+    pub lister: Lister,
+}
+
 // How many bytes were put, and the state behind them.
 pub struct Filled {
     pub count: usize,
-    pub lister: Lister,
+    pub listing: Listing,
 }
 
 // A refused copy has no regions.
@@ -74,13 +91,21 @@ fn device_at(s: &[u8], p: Parts) -> Device
     job_records::device_of(sheet::read_row(s, sheet::DEVICES, devices.first))
 }
 
-fn begin_good(s: &[u8], p: Parts) -> Lister
-    ensures { λ r. ⌜ r ≡ begunAt (now (s .entry)) (Sheet.Good p) ⌝ }
+// A good sheet, with the places of its records. Its counts are at most 64, so none is cut off.
+fn start_good(s: &[u8], p: Parts) -> Listing
+    requires { ⌜ Sheet.Good p ≡ sheetOf (now s) ⌝ }
+    ensures { λ r. ⌜ restOf (now (s .entry)) r ≡ listingOf (now (s .entry)) ⌝ }
 {
+    let t = p.textures;
+    let b = p.buffers;
     let copies = p.copies;
+    let mut textures = [0usize; sheet::MAX_RECORDS];
+    let mut buffers = [0usize; sheet::MAX_RECORDS];
+    sheet::find_places(s, sheet::TEXTURES, t.count, t.first, &mut textures);
+    sheet::find_places(s, sheet::BUFFERS, b.count, b.first, &mut buffers);
     let device = device_at(s, p);
     let plan = no_plan();
-    Lister {
+    let lister = Lister {
         ill: false,
         line: 0,
         total: copies.count,
@@ -88,18 +113,27 @@ fn begin_good(s: &[u8], p: Parts) -> Lister
         at: copies.first,
         device,
         plan,
+    };
+    Listing {
+        textures,
+        texture_count: t.count,
+        buffers,
+        buffer_count: b.count,
+        lister,
     }
 }
 
-fn begin_ill(line: usize) -> Lister
-    ensures { λ r. ⌜ r ≡ illState line ⌝ }
+fn start_ill(line: usize) -> Listing
+    ensures { λ r. ⌜ ((s : List ℕ) → restOf s r ≡ sheetText line) ⌝ }
 {
+    let textures = [0usize; sheet::MAX_RECORDS];
+    let buffers = [0usize; sheet::MAX_RECORDS];
     let plan = no_plan();
     let device = Device {
         depth_texture_and_buffer_copies: false,
         unrestricted_index_buffer: false,
     };
-    Lister {
+    let lister = Lister {
         ill: true,
         line,
         total: 0,
@@ -107,16 +141,24 @@ fn begin_ill(line: usize) -> Lister
         at: 0,
         device,
         plan,
+    };
+    Listing {
+        textures,
+        texture_count: 0,
+        buffers,
+        buffer_count: 0,
+        lister,
     }
 }
 
-// The state before the first piece of a sheet that was read.
-pub fn begin(s: &[u8], read: Sheet) -> Lister
-    ensures { λ r. ⌜ r ≡ begunAt (now (s .entry)) read ⌝ }
+// The state before the first piece: the sheet is read, and the whole listing is left.
+pub fn start(s: &[u8]) -> Listing
+    ensures { λ r. ⌜ restOf (now (s .entry)) r ≡ listingOf (now (s .entry)) ⌝ }
 {
+    let read = sheet::read_sheet(s);
     match read {
-        Sheet::Good(p) => begin_good(s, p),
-        Sheet::Ill(line) => begin_ill(line),
+        Sheet::Good(p) => start_good(s, p),
+        Sheet::Ill(line) => start_ill(line),
     }
 }
 
@@ -192,15 +234,14 @@ impl Lister {
     }
 }
 
-// Pieces one behind the other from the slice's start, as many as there is surely room for. Nothing is put only where nothing
-// is left, or the slice has no room for a piece.
-pub fn fill(
+// Pieces one behind the other from the slice's start, as many as there is surely room for.
+fn put_pieces(
     first: Lister,
     s: &[u8],
     textures: &[usize],
     buffers: &[usize],
     out: &mut [u8],
-) -> Filled
+) -> PiecesPut
     ensures { λ r. ⌜ Fills (now (out .entry)) (now (out .exit)) (r .count) (textLeft (now (s .entry)) (now (textures .entry)) (now (buffers .entry)) first) (textLeft (now (s .entry)) (now (textures .entry)) (now (buffers .entry)) (r .lister)) ⌝ }
     ensures { λ r. ⌜ r .count ≤ length (now (out .exit)) ⌝ }
     ensures { λ r. ⌜ Ends (length (now (out .entry))) (r .count) (textLeft (now (s .entry)) (now (textures .entry)) (now (buffers .entry)) first) ⌝ }
@@ -211,7 +252,7 @@ pub fn fill(
         let stepped = st.step(s, textures, buffers, out, at);
         let next = stepped.lister;
         if stepped.next == at {
-            return Filled {
+            return PiecesPut {
                 count: at,
                 lister: st,
             };
@@ -219,9 +260,46 @@ pub fn fill(
         at = stepped.next;
         st = next;
     }
-    Filled {
+    PiecesPut {
         count: at,
         lister: st,
+    }
+}
+
+// How many places there are: no more than there is room for.
+fn kept(count: usize) -> usize
+    ensures { λ r. ⌜ r ≡ min count 64 ⌝ }
+{
+    if count > sheet::MAX_RECORDS {
+        sheet::MAX_RECORDS
+    } else {
+        count
+    }
+}
+
+// The next part of the listing from the slice's start on, as much as there is surely room for. Nothing is put only where nothing
+// is left, or the slice has no room for a piece.
+pub fn fill(st: Listing, s: &[u8], out: &mut [u8]) -> Filled
+    ensures { λ r. ⌜ Fills (now (out .entry)) (now (out .exit)) (r .count) (restOf (now (s .entry)) st) (restOf (now (s .entry)) (r .listing)) ⌝ }
+    ensures { λ r. ⌜ r .count ≤ length (now (out .exit)) ⌝ }
+    ensures { λ r. ⌜ Ends (length (now (out .entry))) (r .count) (restOf (now (s .entry)) st) ⌝ }
+{
+    let textures = st.textures;
+    let buffers = st.buffers;
+    let first = st.lister;
+    let m = kept(st.texture_count);
+    let n = kept(st.buffer_count);
+    let put = put_pieces(first, s, &textures[..m], &buffers[..n], out);
+    let lister = put.lister;
+    Filled {
+        count: put.count,
+        listing: Listing {
+            textures,
+            texture_count: st.texture_count,
+            buffers,
+            buffer_count: st.buffer_count,
+            lister,
+        },
     }
 }
 

@@ -11,10 +11,11 @@ use Rattle.checks.specs.Checks.{stop-if}
 use Rattle.buffer_texture_plans.specs.declared.BufferTextureCopy.{BufferTextureCopy}
 use Rattle.buffer_texture_plans.specs.declared.BufferTexturePlan.{BufferTexturePlan}
 use Rattle.buffer_texture_plans.specs.declared.NextBufferTextureCopy.the-variants.{Region, NoneLeft}
-use Rattle.copies.specs.Copies.{nextLayer}
+use Rattle.selectors.specs.Selector.{nextLayer}
 use Rattle.buffer_texture_plans.specs.Asking.{moved, advanced, nextOf}
 use Rattle.ownership.specs.Asking.{Gives, ended, gave}
-use Rattle.ownership.specs.Copy.{Copy, image, is2D, regionAt, regionsFrom}
+use Rattle.buffer_texture.specs.Copy.{Copy}
+use Rattle.ownership.specs.Copy.{image, is2D, regionAt, regionsFrom}
 
 -- the next n regions of a plan
 abbrev pub nextRegions : ℕ → BufferTexturePlan → List BufferTextureCopy

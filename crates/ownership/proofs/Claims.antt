@@ -14,7 +14,8 @@ use Rattle.buffer_texture_plans.specs.declared.BufferTextureCopy.{BufferTexture
 use Rattle.buffer_texture_plans.specs.declared.CopyRanges.{CopyRanges}
 use Rattle.buffer_texture_plans.specs.declared.CopyRanges.the-variants.{Given}
 use Rattle.ownership.specs.Asking.{Gives}
-use Rattle.ownership.specs.Copy.{Copy, depth, bytes, wide, high, row, rows, total, is2D, count, regionsOf}
+use Rattle.buffer_texture.specs.Copy.{Upload, Download, Copy}
+use Rattle.ownership.specs.Copy.{reads, depth, bytes, wide, high, row, rows, total, is2D, count, regionsOf}
 use Rattle.ownership.specs.Ranges.{contiguous, touched, filled, textureRange, bufferRanges, listed}
 use Rattle.ownership.specs.Demand3.{Owned, Between, Beside, Reported, Demand3, EveryCopy}
 use Rattle.ownership.proofs.Blocks as blocks
@@ -60,30 +61,30 @@ module _ (c : Copy) (s : Sound c) (pw : 0 < c .size .width) (ph : 0 < c .size .h
   abbrev ranges : CopyRanges
   ranges = Given (textureRange c) (bufferRanges c)
 
-  touched-is : (c .reads || not (contiguous c)) ≡ true → bufferRanges c ≡ touched s₀ e₀
+  touched-is : (reads (c .direction) || not (contiguous c)) ≡ true → bufferRanges c ≡ touched s₀ e₀
   touched-is e = rw e
 
-  filled-is : (c .reads || not (contiguous c)) ≡ false → bufferRanges c ≡ filled s₀ e₀
+  filled-is : (reads (c .direction) || not (contiguous c)) ≡ false → bufferRanges c ≡ filled s₀ e₀
   filled-is e = rw e
 
-  padded : c .reads ≡ false → contiguous c ≡ false → (c .reads || not (contiguous c)) ≡ true
+  padded : c .direction ≡ Download → contiguous c ≡ false → (reads (c .direction) || not (contiguous c)) ≡ true
   padded e f = rw (f, e)
 
-  unpadded : c .reads ≡ false → contiguous c ≡ true → (c .reads || not (contiguous c)) ≡ false
+  unpadded : c .direction ≡ Download → contiguous c ≡ true → (reads (c .direction) || not (contiguous c)) ≡ false
   unpadded e f = rw (f, e)
 
-  implicit : (t : Bool) → (c .reads || not (contiguous c)) ≡ t → (byte : ℕ) → Reported ImplicitlyInitialized byte (listed ranges) → Owned c byte
+  implicit : (t : Bool) → (reads (c .direction) || not (contiguous c)) ≡ t → (byte : ℕ) → Reported ImplicitlyInitialized byte (listed ranges) → Owned c byte
   implicit true e byte h = runs.never (textureRange c) s₀ e₀ byte (rw (touched-is e) at h)
   implicit false e byte h =
       let r = runs.within (textureRange c) s₀ e₀ byte (rw (filled-is e) at h) in
-      owners.full c s pw ph pd (not-false _ (neither (c .reads) _ e .1)) byte (r .0) (r .1)
+      owners.full c s pw ph pd (not-false _ (neither (reads (c .direction)) _ e .1)) byte (r .0) (r .1)
 
-  read : c .reads ≡ true → (byte : ℕ) → Owned c byte → Reported NeedsInitializedMemory byte (listed ranges)
+  read : c .direction ≡ Upload → (byte : ℕ) → Owned c byte → Reported NeedsInitializedMemory byte (listed ranges)
   read e byte o =
       let i = owners.inside c s pw ph pd byte (o .0) (o .1) in
       rw (touched-is (rw e)) (runs.covered (textureRange c) s₀ e₀ byte byte (i .0) (i .1) refl)
 
-  written : c .reads ≡ false → (byte : ℕ) → (Owned c byte → ⊥) → Between c byte ⊎ Beside c byte → Reported NeedsInitializedMemory byte (listed ranges)
+  written : c .direction ≡ Download → (byte : ℕ) → (Owned c byte → ⊥) → Between c byte ⊎ Beside c byte → Reported NeedsInitializedMemory byte (listed ranges)
   -- within the span: owned, or reported with the whole span
   written w byte un (inl (below, above, o, l, p, h)) =
       let i = owners.inside c s pw ph pd below (o .0) (o .1) in
@@ -122,5 +123,5 @@ module _ (c : Copy) (s : Sound c) (pw : 0 < c .size .width) (ph : 0 < c .size .h
 
 pub every-copy : EveryCopy
 every-copy c p e pw ph pd =
-    let k = checks-of (c .reads) c p e in
-    rw (plan-is c p k pw ph pd) (demand c (sound-of (c .reads) c p k) pw ph pd)
+    let k = checks-of c p e in
+    rw (plan-is c p k pw ph pd) (demand c (sound-of c p k) pw ph pd)

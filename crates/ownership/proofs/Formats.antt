@@ -9,7 +9,7 @@ use Rattle.checks.specs.Checks.{stop-if}
 use Rattle.checks.proofs.Rules.{both-true}
 use Rattle.checks.proofs.Tables.{everyBelow, at-below}
 use Rattle.measures.specs.Measure.{orElse}
-use Rattle.flags.specs.Flags.{holds, met, isOne}
+use Rattle.flags.specs.Flags.{meet, isOne}
 use Rattle.formats.specs.declared.TextureAspect.{TextureAspect}
 use Rattle.formats.specs.declared.TextureAspect.the-variants.{All, StencilOnly, DepthOnly, Plane0, Plane1, Plane2}
 use Rattle.formats.specs.Sheet.{rowOf, aspectsOf, blockWidth, blockHeight, isFormat}
@@ -18,44 +18,46 @@ use Rattle.formats.specs.Aspects.{askedOf, chosenAspects, bytesOf, blockCopySiz
 use Rattle.refusals.specs.declared.Checked.{Checked}
 use Rattle.refusals.specs.declared.Checked.the-variants as C
 use Rattle.linear.specs.Linear.{blockBytes}
-use Rattle.format_rules.specs.Rules.{isDepthOnly, srcFormat, dstFormat}
+use Rattle.refusals.specs.Order.{refuse-if, first, decided, checked}
+use Rattle.format_rules.specs.Rules.{isDepthOnly, srcFormatChecks, dstFormatChecks}
+use Rattle.buffer_texture.specs.Copy.{Direction, Upload, Download}
+use Rattle.buffer_texture.specs.Laws.{formatChecks}
 use Rattle.ownership.specs.Formats.{formats, blockSide, isAll, chosenBits, bytesPerBlock}
 
 goesB : Checked → Bool
 goesB C.GoOn = true
 goesB (C.Refused e) = false
 
-abbrev pub formatRule : Bool → ℕ → TextureAspect → Checked
-formatRule true format aspect = dstFormat format aspect
-formatRule false format aspect = srcFormat format aspect
+abbrev formatRule : Direction → ℕ → TextureAspect → Checked
+formatRule d format aspect = checked (formatChecks d format aspect)
 
 -- a buffer copy may read or write it
-copyable : Bool → TextureAspect → ℕ → Bool
-copyable reads aspect format = goesB (formatRule reads format aspect) && isOne (chosenAspects format aspect)
+copyable : Direction → TextureAspect → ℕ → Bool
+copyable d aspect format = goesB (formatRule d format aspect) && isOne (chosenAspects format aspect)
 
 -- the blocks' sides and the chosen aspects are the claim's, and where it may be copied the bytes too, and some
-alike : Bool → TextureAspect → ℕ → Bool
-alike reads aspect format =
+alike : Direction → TextureAspect → ℕ → Bool
+alike d aspect format =
     eqb (blockWidth format) (blockSide format)
     && (eqb (blockHeight format) (blockSide format)
     && (ltb 0 (blockSide format)
     && (eqb (chosenAspects format aspect) (chosenBits format aspect)
-    && (not (copyable reads aspect format) || (eqb (blockBytes format aspect) (bytesPerBlock format aspect) && ltb 0 (bytesPerBlock format aspect))))))
+    && (not (copyable d aspect format) || (eqb (blockBytes format aspect) (bytesPerBlock format aspect) && ltb 0 (bytesPerBlock format aspect))))))
 
-all-alike : (reads : Bool) (aspect : TextureAspect) → everyBelow (alike reads aspect) 22 ≡ true
-unfolding alike copyable goesB sheet.formats rowOf aspectsOf blockWidth blockHeight askedOf chosenAspects bytesOf blockCopySize blockBytes orElse met holds isOne stop-if srcFormat dstFormat isDepthOnly formats blockSide isAll chosenBits bytesPerBlock
-all-alike true All = refl
-all-alike true StencilOnly = refl
-all-alike true DepthOnly = refl
-all-alike true Plane0 = refl
-all-alike true Plane1 = refl
-all-alike true Plane2 = refl
-all-alike false All = refl
-all-alike false StencilOnly = refl
-all-alike false DepthOnly = refl
-all-alike false Plane0 = refl
-all-alike false Plane1 = refl
-all-alike false Plane2 = refl
+all-alike : (d : Direction) (aspect : TextureAspect) → everyBelow (alike d aspect) 22 ≡ true
+unfolding alike copyable goesB sheet.formats rowOf aspectsOf blockWidth blockHeight askedOf chosenAspects bytesOf blockCopySize blockBytes orElse meet isOne stop-if refuse-if first decided srcFormatChecks dstFormatChecks isDepthOnly formats blockSide isAll chosenBits bytesPerBlock
+all-alike Upload All = refl
+all-alike Upload StencilOnly = refl
+all-alike Upload DepthOnly = refl
+all-alike Upload Plane0 = refl
+all-alike Upload Plane1 = refl
+all-alike Upload Plane2 = refl
+all-alike Download All = refl
+all-alike Download StencilOnly = refl
+all-alike Download DepthOnly = refl
+all-alike Download Plane0 = refl
+all-alike Download Plane1 = refl
+all-alike Download Plane2 = refl
 
 pub record Figures (format : ℕ) (aspect : TextureAspect) : Type 0 where
   pub width : blockWidth format ≡ blockSide format
@@ -70,15 +72,15 @@ unfolding goesB
 may-copy m o t e p q = rw (p, q) at e
 
 pub figures :
-    (reads : Bool) (format : ℕ) (aspect : TextureAspect) → isFormat format ≡ true → formatRule reads format aspect ≡ C.GoOn
+    (d : Direction) (format : ℕ) (aspect : TextureAspect) → isFormat format ≡ true → formatRule d format aspect ≡ C.GoOn
     → isOne (chosenAspects format aspect) ≡ true → Figures format aspect
 unfolding isFormat sheet.formats alike copyable
-figures reads format aspect known goes one =
-    let w = both-true _ _ (at-below (alike reads aspect) 22 (all-alike reads aspect) format (ltb-true format 22 known)) in
+figures d format aspect known goes one =
+    let w = both-true _ _ (at-below (alike d aspect) 22 (all-alike d aspect) format (ltb-true format 22 known)) in
     let h = both-true _ _ (w .1) in
     let s = both-true _ _ (h .1) in
     let a = both-true _ _ (s .1) in
-    let b = both-true _ _ (may-copy (formatRule reads format aspect) (isOne (chosenAspects format aspect)) _ (a .1) goes one) in
+    let b = both-true _ _ (may-copy (formatRule d format aspect) (isOne (chosenAspects format aspect)) _ (a .1) goes one) in
     record {
       width = eqb-true _ _ (w .0);
       height = eqb-true _ _ (h .0);

@@ -8,7 +8,8 @@ use native.Mathlib.Nat.{suc-mul, zero-mul, add-zero, zero-add, add-sub-cancel-le
 use lib.ListN.{length, getD}
 use Rattle.buffer_texture_plans.specs.declared.BufferTextureCopy.{BufferTextureCopy}
 use Rattle.ownership.specs.Regions.{Place, Within, Names, puts}
-use Rattle.ownership.specs.Copy.{Copy, depth, bytes, block, wide, high, image, is2D, count, regionAt, regionsFrom, regionsOf}
+use Rattle.buffer_texture.specs.Copy.{Copy}
+use Rattle.ownership.specs.Copy.{depth, bytes, block, wide, high, image, is2D, count, regionAt, regionsFrom, regionsOf}
 use Rattle.ownership.specs.Demand3.{Block, InBox, Boxed, NamedBy, placeOf, firstByte}
 use Rattle.ownership.proofs.Sound.{Sound}
 

@@ -9,7 +9,8 @@ use native.Mathlib.Nat.{zero-mul, eq-zero-or-pos}
 use lib.Dec.{eqb, leb}
 use borrow.Author.Tests.{eqb-true, leb-true, ne-eqb}
 use Rattle.checks.proofs.Rules.{both-true, either}
-use Rattle.ownership.specs.Copy.{Copy, depth, block, bytes, wide, high, dense, row, rows, image, imageBytes, total}
+use Rattle.buffer_texture.specs.Copy.{Copy}
+use Rattle.ownership.specs.Copy.{depth, block, bytes, wide, high, dense, row, rows, image, imageBytes, total}
 use Rattle.ownership.specs.Ranges.{contiguous}
 use Rattle.ownership.specs.Demand3.{Block, Owns, Owned, firstByte}
 use Rattle.ownership.proofs.Blocks as blocks

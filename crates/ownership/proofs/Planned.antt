@@ -13,14 +13,16 @@ use Rattle.selectors.specs.Selector.{baseOf}
 use Rattle.records.specs.Extents.{logicalExtent}
 use Rattle.init.specs.declared.MemoryInitKind.the-variants.{ImplicitlyInitialized, NeedsInitializedMemory}
 use Rattle.init.specs.Init.{bufferInit, isSource, srcTextureRange, dstTextureRange, textureRange, isPartialCover}
-use Rattle.copies.specs.Copies.{isEmpty}
+use Rattle.measures.specs.Measure.{isEmpty}
 use Rattle.buffer_texture_plans.specs.declared.BufferTexturePlan.{BufferTexturePlan}
 use Rattle.buffer_texture_plans.specs.declared.CopyRanges.the-variants.{Given}
 use Rattle.buffer_texture_plans.specs.Plan.{firstRegion, rangesOf, planOf}
-use Rattle.ownership.specs.Copy.{Copy, depth, image, total, count, regionAt}
+use Rattle.buffer_texture.specs.Copy.{Direction, Upload, Download, Copy}
+use Rattle.buffer_texture.specs.Plan as planner
+use Rattle.ownership.specs.Copy.{reads, depth, image, total, count, regionAt}
 use Rattle.ownership.specs.Ranges.{covers, contiguous, touched, filled, bufferRanges}
 use Rattle.ownership.specs.Ranges as R
-use Rattle.ownership.proofs.Accepted.{Checks, plansTexture, bufferSide}
+use Rattle.ownership.proofs.Accepted.{Checks}
 use Rattle.ownership.proofs.Bridges.{Dimensioned, known, ByDimension, by-dimension, kind-is, touched-is, filled-is}
 use Rattle.ownership.proofs.Sound.{linear-is, level-deep, figured}
 
@@ -35,31 +37,31 @@ planOfCopy c =
     }
 
 -- a buffer that is read is the source
-run-is : (reads t : Bool) (s n : ℕ) → bufferInit s (bufferSide reads) n t ≡ cond (reads || not t) (touched s (s + n)) (filled s (s + n))
+run-is : (d : Direction) (t : Bool) (s n : ℕ) → bufferInit s (planner.bufferSide d) n t ≡ cond (reads d || not t) (touched s (s + n)) (filled s (s + n))
 unfolding bufferInit stop-if isSource
-run-is true true s n = touched-is s (s + n)
-run-is true false s n = touched-is s (s + n)
-run-is false false s n = touched-is s (s + n)
-run-is false true s n = filled-is s (s + n)
+run-is Upload true s n = touched-is s (s + n)
+run-is Upload false s n = touched-is s (s + n)
+run-is Download false s n = touched-is s (s + n)
+run-is Download true s n = filled-is s (s + n)
 
-module _ (c : Copy) (p : BufferTexturePlan) (k : Checks (c .reads) c p) (pw : 0 < c .size .width) (ph : 0 < c .size .height) (pd : 0 < depth c) where
+module _ (c : Copy) (p : BufferTexturePlan) (k : Checks c p) (pw : 0 < c .size .width) (ph : 0 < c .size .height) (pd : 0 < depth c) where
   some-size : isEmpty (c .size) ≡ false
   unfolding isEmpty
   some-size = rw (ne-eqb (c .size .width) 0 (λ e. omega arith), ne-eqb (c .size .height) 0 (λ e. omega arith), ne-eqb (depth c) 0 (λ e. omega arith))
 
   shape : Dimensioned (c .texture)
-  shape = known (c .texture) (k .texture-bounds) .1
+  shape = known (c .texture) (k .accepted .texture-bounds) .1
 
   sides : ByDimension (c .texture .dimension) (c .view .origin .z) (depth c)
-  sides = by-dimension (c .texture) (c .view .«mip_level») (c .view .origin .z) (depth c) shape (level-deep (c .reads) c p k) pd
+  sides = by-dimension (c .texture) (c .view .«mip_level») (c .view .origin .z) (depth c) shape (level-deep c p k) pd
 
-  texture-is : (reads : Bool) → reads ≡ c .reads → plansTexture reads c ≡ R.textureRange c
+  texture-is : (d : Direction) → d ≡ c .direction → planner.textureRange d c ≡ R.textureRange c
   unfolding srcTextureRange dstTextureRange textureRange isPartialCover logicalExtent covers
-  texture-is true e =
+  texture-is Upload e =
       let l = sides .range in
       let m = kind-is (c .texture) (c .size) (c .view .«mip_level») (c .view .aspect) NeedsInitializedMemory ImplicitlyInitialized shape in
       rw (← e, l, m)
-  texture-is false e = let l = sides .range in rw (← e, l)
+  texture-is Download e = let l = sides .range in rw (← e, l)
 
   region-is : firstRegion (c .layout) (baseOf (c .view) (c .texture) (chosenAspects (c .texture .format) (c .view .aspect))) (copyExtent (c .texture) (c .size)) ≡ regionAt c 0
   unfolding firstRegion baseOf copyExtent
@@ -68,9 +70,9 @@ module _ (c : Copy) (p : BufferTexturePlan) (k : Checks (c .reads) c p) (pw : 0 
       let l = sides .layer in
       let z = sides .z in
       let d = sides .depth in
-      let a = figured (c .reads) c p k .chosen in
+      let a = figured c p k .chosen in
       cc
 
   pub plan-is : p ≡ planOfCopy c
-  unfolding planOf rangesOf arrayLayerCount
-  plan-is = sym (k .plan) ∙ rw (linear-is (c .reads) c p k, some-size, region-is, sides .layers, texture-is (c .reads) refl, run-is (c .reads) (contiguous c) (c .layout .offset) (total c))
+  unfolding planner.planFor planOf rangesOf arrayLayerCount
+  plan-is = sym (k .plan) ∙ rw (linear-is c p k, some-size, region-is, sides .layers, texture-is (c .direction) refl, run-is (c .direction) (contiguous c) (c .layout .offset) (total c))

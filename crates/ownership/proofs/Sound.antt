@@ -1,7 +1,6 @@
 -- The figures of an accepted copy, in the claim's own words.
 -- Assumes nothing.
 use mathlib.Core.Path.{_≡_, ap, _∙_}
-use mathlib.Core.Bool.{Bool}
 use Prim.Native.Nat.{ℕ, _+_, _*_, _/_, _%_, _≤_, _<_}
 use native.Mathlib.Omega.{arith}
 use native.Mathlib.Nat.{div-add-mod'}
@@ -14,13 +13,15 @@ use Rattle.records.specs.Extents.{logicalExtent, physicalExtent}
 use Rattle.records.proofs.Bounded.{buffer-laws, texture-laws}
 use Rattle.linear.specs.declared.Dense.{Dense}
 use Rattle.linear.specs.declared.LinearData.{LinearData}
-use Rattle.linear.specs.Linear.{denseOf, dataOf, isContiguous, severalRows, severalImages}
-use Rattle.linear.specs.Laws.{LinearLaws, totalBytes, given}
+use Rattle.linear.specs.Linear.{denseOf, totalBytes, dataOf, linearData, isContiguous, severalRows, severalImages}
+use Rattle.linear.specs.Laws.{LinearLaws}
+use Rattle.buffer_texture.specs.Plan as planner
 use Rattle.buffer_texture_plans.specs.declared.BufferTexturePlan.{BufferTexturePlan}
-use Rattle.ownership.specs.Copy.{Copy, depth, bytes, block, wide, high, dense, row, rows, image, imageBytes, total}
+use Rattle.buffer_texture.specs.Copy.{Copy}
+use Rattle.ownership.specs.Copy.{depth, bytes, block, wide, high, dense, row, rows, image, imageBytes, total}
 use Rattle.ownership.specs.Ranges.{contiguous}
 use Rattle.ownership.proofs.Formats.{Figures, figures}
-use Rattle.ownership.proofs.Accepted.{Checks, denseFor}
+use Rattle.ownership.proofs.Accepted.{Checks}
 use Rattle.ownership.proofs.Bridges.{known, dense-is, stacked-is, single-is, neither-is}
 
 pub record Sound (c : Copy) : Type 0 where
@@ -52,45 +53,45 @@ total-is c = simp (stacked-is, dense-is)
 abbrev pub linearOf : Copy → LinearData
 linearOf c = record { «bytes_in_copy» = total c; «image_stride» = image c; «is_contiguous» = contiguous c }
 
-given-is : (c : Copy) → given (c .layout) (measures c) ≡ linearOf c
+given-is : (c : Copy) → linearData (c .layout) (measures c) ≡ linearOf c
 unfolding dataOf isContiguous severalRows severalImages contiguous total imageBytes
 given-is c = simp (stacked-is, dense-is, neither-is, single-is)
 
-module _ (reads : Bool) (c : Copy) (p : BufferTexturePlan) (k : Checks reads c p) where
+module _ (c : Copy) (p : BufferTexturePlan) (k : Checks c p) where
   pub figured : Figures (c .texture .format) (c .view .aspect)
-  figured = figures reads (c .texture .format) (c .view .aspect) (known (c .texture) (k .texture-bounds) .0) (k .format) (k .one)
+  figured = figures (c .direction) (c .texture .format) (c .view .aspect) (known (c .texture) (k .accepted .texture-bounds) .0) (k .accepted .format) (k .one)
 
   across : (blocksOf (c .size .width) (blockWidth (c .texture .format)) ≡ wide c) × (wide c * block c ≡ c .size .width)
-  across = whole (c .size .width) _ (block c) (figured .side-some) (figured .width) (k .range .width-whole)
+  across = whole (c .size .width) _ (block c) (figured .side-some) (figured .width) (k .accepted .range .width-whole)
 
   along : (blocksOf (c .size .height) (blockHeight (c .texture .format)) ≡ high c) × (high c * block c ≡ c .size .height)
-  along = whole (c .size .height) _ (block c) (figured .side-some) (figured .height) (k .range .height-whole)
+  along = whole (c .size .height) _ (block c) (figured .side-some) (figured .height) (k .accepted .range .height-whole)
 
-  measured : denseFor c ≡ measures c
+  measured : planner.dense c ≡ measures c
   unfolding denseOf
   measured = let w = across .0 in let h = along .0 in let b = figured .bytes in cc
 
   linear : LinearLaws (c .layout) (c .buffer .size) (measures c)
-  linear = rw measured at (k .linear)
+  linear = rw measured at (k .accepted .linear)
 
-  pub linear-is : given (c .layout) (denseFor c) ≡ linearOf c
-  linear-is = ap (λ (d : Dense). given (c .layout) d) measured ∙ given-is c
+  pub linear-is : linearData (c .layout) (planner.dense c) ≡ linearOf c
+  linear-is = ap (λ (d : Dense). linearData (c .layout) d) measured ∙ given-is c
 
   -- the copied images are the level's
   pub level-deep : c .view .origin .z + depth c ≤ mipLevelSize (dimensionOf (c .texture .dimension)) (c .texture .size) (c .view .«mip_level») .«depth_or_array_layers»
   unfolding physicalExtent physicalSize logicalExtent
-  level-deep = k .range .z-inside
+  level-deep = k .accepted .range .z-inside
 
   deep : c .view .origin .z + depth c ≤ maxSide3d
   unfolding logicalExtent
   deep =
-      let few = texture-laws (c .texture) (k .texture-bounds) .level-sized (c .view .«mip_level») .depth-few in
+      let few = texture-laws (c .texture) (k .accepted .texture-bounds) .level-sized (c .view .«mip_level») .depth-few in
       omega (arith, level-deep)
 
   pub sound-of : Sound c
   sound-of =
       record {
-        small = buffer-laws (c .buffer) (k .buffer-bounds);
+        small = buffer-laws (c .buffer) (k .accepted .buffer-bounds);
         block-pos = figured .side-some;
         bytes-pos = figured .bytes-some;
         w-whole = across .1;

@@ -3,32 +3,25 @@ use mathlib.Core.Bool.{Bool, true, false, cond}
 use mathlib.Core.List.{List, [], _∷_}
 use Prim.Native.Nat.{ℕ, zero, suc, _+_, _-_, _*_, _/_}
 use lib.Dec.{eqb}
-use Rattle.measures.specs.declared.Extent3d.{Extent3d}
-use Rattle.records.specs.declared.Buffer.{Buffer}
-use Rattle.records.specs.declared.Device.{Device}
-use Rattle.records.specs.declared.Texture.{Texture}
-use Rattle.records.specs.declared.TexelCopyTextureInfo.{TexelCopyTextureInfo}
-use Rattle.records.specs.declared.TexelCopyBufferLayout.{TexelCopyBufferLayout}
 use Rattle.buffer_texture_plans.specs.declared.BufferTextureCopy.{BufferTextureCopy}
 use Rattle.buffer_texture.specs.declared.BufferTexturePlanned.{BufferTexturePlanned}
+use Rattle.buffer_texture.specs.Copy.{Direction, Upload, Download, Copy}
 use Rattle.buffer_texture.specs.Plan.{bufferToTexture, textureToBuffer}
 use Rattle.ownership.specs.Formats.{blockSide, chosenBits, bytesPerBlock}
 use Rattle.ownership.specs.Regions.{orDense}
 
--- `reads` where the buffer is read: buffer to texture
-pub record Copy : Type 0 where
-  pub reads : Bool
-  pub device : Device
-  pub buffer : Buffer
-  pub layout : TexelCopyBufferLayout
-  pub texture : Texture
-  pub view : TexelCopyTextureInfo
-  pub size : Extent3d
-
 -- what the two plan functions' contracts give
-abbrev pub planned : Bool → Copy → BufferTexturePlanned
-planned true c = bufferToTexture (c .device) (c .buffer) (c .layout) (c .texture) (c .view) (c .size)
-planned false c = textureToBuffer (c .device) (c .texture) (c .view) (c .buffer) (c .layout) (c .size)
+abbrev pub plannedBy : Direction → Copy → BufferTexturePlanned
+plannedBy Upload c = bufferToTexture (c .device) (c .buffer) (c .layout) (c .texture) (c .view) (c .size)
+plannedBy Download c = textureToBuffer (c .device) (c .texture) (c .view) (c .buffer) (c .layout) (c .size)
+
+abbrev pub planned : Copy → BufferTexturePlanned
+planned c = plannedBy (c .direction) c
+
+-- the buffer is read: buffer to texture
+abbrev pub reads : Direction → Bool
+reads Upload = true
+reads Download = false
 
 -- ---- figures (module 4)
 

@@ -1,7 +1,6 @@
 -- Demand 3: what holds of every accepted copy between a buffer and a texture with no size of 0, of all the regions that its plan
 -- hands back, of the ranges and of the required bytes that it reports. Every range is half-open.
 use mathlib.Core.Path.{_≡_}
-use mathlib.Core.Bool.{true, false}
 use mathlib.Core.List.{List, _∷_}
 use mathlib.Core.Logic.{_⊎_, _↔_}
 use Prim.Native.Nat.{ℕ, _+_, _*_, _/_, _≤_, _<_}
@@ -15,7 +14,8 @@ use Rattle.buffer_texture.specs.declared.BufferTexturePlanned.the-variants.{Pla
 use Rattle.buffer_texture_plans.specs.declared.CopyRanges.the-variants.{Given}
 use Rattle.ownership.specs.Regions.{Place, Within, Names, puts}
 use Rattle.ownership.specs.Asking.{Gives}
-use Rattle.ownership.specs.Copy.{Copy, planned, depth, aspects, bytes, block, wide, high, row, image, total, layerAt, depthAt, regionAt, regionsOf}
+use Rattle.buffer_texture.specs.Copy.{Upload, Download, Copy}
+use Rattle.ownership.specs.Copy.{planned, depth, aspects, bytes, block, wide, high, row, image, total, layerAt, depthAt, regionAt, regionsOf}
 use Rattle.ownership.specs.Ranges.{textureRange, bufferRanges, listed}
 
 -- ---- who owns a byte
@@ -101,11 +101,11 @@ pub record Demand3 (c : Copy) (p : BufferTexturePlan) : Type 0 where
   -- what is implicitly initialised is owned; where the buffer is read, what is owned needs memory; where it is written, so does every
   -- unowned byte with an owned one below and one above it, or with one in its word
   pub implicit : (byte : ℕ) → Reported ImplicitlyInitialized byte (listed (p .ranges)) → Owned c byte
-  pub read : c .reads ≡ true → (byte : ℕ) → Owned c byte → Reported NeedsInitializedMemory byte (listed (p .ranges))
-  pub written : c .reads ≡ false → (byte : ℕ) → (Owned c byte → ⊥) → Between c byte ⊎ Beside c byte → Reported NeedsInitializedMemory byte (listed (p .ranges))
+  pub read : c .direction ≡ Upload → (byte : ℕ) → Owned c byte → Reported NeedsInitializedMemory byte (listed (p .ranges))
+  pub written : c .direction ≡ Download → (byte : ℕ) → (Owned c byte → ⊥) → Between c byte ⊎ Beside c byte → Reported NeedsInitializedMemory byte (listed (p .ranges))
 
 -- of every device, record and figure, and every accepted copy, either way, whose width, height and depth are above 0
 abbrev pub EveryCopy : Type 0
 EveryCopy =
-    (c : Copy) (p : BufferTexturePlan) → planned (c .reads) c ≡ Plan p
+    (c : Copy) (p : BufferTexturePlan) → planned c ≡ Plan p
     → 0 < c .size .width → 0 < c .size .height → 0 < depth c → Demand3 c p

@@ -7,7 +7,8 @@ use Rattle.buffer_texture_plans.specs.declared.BufferTexturePlan.{BufferTexture
 use Rattle.buffer_texture_plans.specs.declared.CopyRanges.the-variants.{Absent}
 use Rattle.buffer_texture.specs.declared.BufferTexturePlanned.the-variants.{Plan}
 use Rattle.ownership.specs.Asking.{Gives}
-use Rattle.ownership.specs.Copy.{Copy, planned, depth, total}
+use Rattle.buffer_texture.specs.Copy.{Copy}
+use Rattle.ownership.specs.Copy.{planned, depth, total}
 
 -- zero width, height or depth
 abbrev pub NoSize : Copy → Type 0
@@ -21,4 +22,4 @@ pub record EmptyCopy (c : Copy) (p : BufferTexturePlan) : Type 0 where
 
 -- of every device, record and figure, and every accepted copy, either way, whose width, height or depth is 0
 abbrev pub EveryEmptyCopy : Type 0
-EveryEmptyCopy = (c : Copy) (p : BufferTexturePlan) → planned (c .reads) c ≡ Plan p → NoSize c → EmptyCopy c p
+EveryEmptyCopy = (c : Copy) (p : BufferTexturePlan) → planned c ≡ Plan p → NoSize c → EmptyCopy c p

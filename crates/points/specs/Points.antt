@@ -4,17 +4,17 @@ use mathlib.Core.List.{List, [], _∷_, map}
 use Prim.Native.Nat.{ℕ}
 use Prim.Native.String.{String}
 use lib.ListN.{getD}
-use Rattle.requests.specs.declared.TextureRequest.{TextureRequest}
-use Rattle.requests.specs.declared.Request.{Request}
-use Rattle.requests.specs.declared.Request.the-variants.{TextureToTexture}
-use Rattle.records.specs.declared.Texture.{Texture}
+use Rattle.measures.specs.declared.Extent3d.{Extent3d}
+use Rattle.records.specs.declared.Device.{Device}
+use Rattle.records.specs.declared.TextureSide.{TextureSide}
 use Rattle.fields.specs.declared.Line.{Line}
 use Rattle.sheet.specs.declared.Parts.{Parts}
 use Rattle.sheet.specs.declared.Sheet.the-variants.{Good}
 use Rattle.sheet.specs.Rows.{textures, copies, rowOf, placesOf}
 use Rattle.sheet.specs.Sheet.{sheetOf}
-use Rattle.job_records.specs.Records.{wordOf}
-use Rattle.jobs.specs.Jobs.{textureAt, textureRequest}
+use Rattle.requests.specs.Requests.{plannedTextures}
+use Rattle.job_records.specs.Records.{wordOf, extentOf}
+use Rattle.jobs.specs.Jobs.{sideAt, linePlanned}
 use Rattle.listing.specs.Listing.{listingOf}
 use Rattle.webgpu.specs.WebGpu.{Reading}
 use Rattle.webgpu_copies.specs.WholeCopies.{PlansTextures, StandardTextures}
@@ -83,8 +83,16 @@ Starred = map (λ (p : Point). listingOf (bytes (p .sheet))) points ≡ map (λ 
 abbrev pub point : ℕ → Point
 point n = getD points n (record { sheet = ""; listing = "" })
 
+-- a copy between textures, which are told apart by their indices
+pub record Asked : Type 0 where
+  pub «src_index» : ℕ
+  pub src : TextureSide
+  pub «dst_index» : ℕ
+  pub dst : TextureSide
+  pub size : Extent3d
+
 -- the copy of one 3D texture onto itself, z 0 to z 1, depth 2
-abbrev pub volume : TextureRequest
+abbrev pub volume : Asked
 volume = record { «src_index» = 0; src = side (texture 0 3 (extent 4 4 4)) 0; «dst_index» = 0; dst = side (texture 0 3 (extent 4 4 4)) 1; size = extent 4 4 2 }
 
 -- the first copy line of a sheet, read as a copy between textures
@@ -92,14 +100,18 @@ module _ (s : List ℕ) (p : Parts) where
   abbrev pub line : Line
   line = rowOf s copies (p .copies .first)
 
-  abbrev pub named : ℕ → Texture
-  named field = textureAt s (placesOf s textures (p .textures .count) (p .textures .first)) (wordOf line field)
+  abbrev pub places : List ℕ
+  places = placesOf s textures (p .textures .count) (p .textures .first)
 
-  abbrev pub request : Request
-  request = textureRequest line (named 1) (named 7)
+  abbrev pub asks : Asked
+  asks = record { «src_index» = wordOf line 1; src = sideAt s places line 1; «dst_index» = wordOf line 7; dst = sideAt s places line 7; size = extentOf line 13 }
 
--- it is what its sheet asks for, it is accepted, and the standard refuses it, however it is read
+-- it is what its sheet asks for and what is answered there, it is accepted, and the standard refuses it, however it is read
 pub record RefusedByStandard : Type 0 where
-  pub asked : (p : Parts) → sheetOf (bytes (point 7 .sheet)) ≡ Good p → request (bytes (point 7 .sheet)) p ≡ TextureToTexture volume
+  pub asked : (p : Parts) → sheetOf (bytes (point 7 .sheet)) ≡ Good p → asks (bytes (point 7 .sheet)) p ≡ volume
+  pub answered :
+      (p : Parts) → sheetOf (bytes (point 7 .sheet)) ≡ Good p → (buffers : List ℕ) (device : Device)
+      → linePlanned (bytes (point 7 .sheet)) (places (bytes (point 7 .sheet)) p) buffers device (line (bytes (point 7 .sheet)) p)
+      ≡ plannedTextures (volume .«src_index») (volume .src) (volume .«dst_index») (volume .dst) (volume .size)
   pub accepted : PlansTextures (volume .«src_index») (volume .«dst_index») (volume .src) (volume .dst) (volume .size)
   pub refused : (reading : Reading) → StandardTextures (volume .«src_index») (volume .«dst_index») (volume .src) (volume .dst) (volume .size) reading → ⊥

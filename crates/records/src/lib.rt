@@ -62,6 +62,12 @@ pub struct TexelCopyBufferLayout {
     pub rows_per_image: OptionU32,
 }
 
+// A texture and the part of it: either side of a copy between textures.
+pub struct TextureSide {
+    pub texture: Texture,
+    pub view: TexelCopyTextureInfo,
+}
+
 // What the device can do. Any two facts are within its bounds.
 pub struct Device {
     pub depth_texture_and_buffer_copies: bool,

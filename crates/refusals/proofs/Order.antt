@@ -150,3 +150,12 @@ test-fails false e h = refl
 pub test-off : (t : Bool) (e : TransferError) → t ≡ false → refuse-if t e ≡ []
 unfolding refuse-if
 test-off t e h = rw h
+
+-- ---- a rule that goes on finds nothing
+
+pub checked-passes : (checks : Checks) → checked checks ≡ C.GoOn → flatten checks ≡ []
+checked-passes checks h = clear Checked C.Refused C.GoOn (flatten checks) C.GoOn (sym h ∙ first-of-all Checked checks C.Refused C.GoOn) (λ e. no-refusal) .0
+
+pub passes-checked : (checks : Checks) → flatten checks ≡ [] → checked checks ≡ C.GoOn
+unfolding first
+passes-checked checks h = first-of-all Checked checks C.Refused C.GoOn ∙ rw h

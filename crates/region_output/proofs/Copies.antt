@@ -1,62 +1,54 @@
 -- The plan of an accepted copy of each kind.
 -- Assumes nothing.
 use Prim.{Unit, tt}
-use mathlib.Core.Path.{_≡_, refl}
+use mathlib.Core.Path.{_≡_, refl, sym, _∙_}
 use mathlib.Core.Bool.{Bool, true, false, _||_}
 use mathlib.Core.List.{[], _∷_}
 use Prim.Native.Nat.{ℕ, _+_, _-_, _*_, _≤_, _<_}
 use native.Mathlib.Omega.{arith}
 use native.Mathlib.Nat.{mul-le-mul-right, min-le-left}
 use lib.Dec.{eqb}
-use borrow.Author.Tests.{ltb-false, eqb-false, ne-eqb}
-use Rattle.checks.specs.Checks.{pick, stop-if}
+use borrow.Author.Tests.{eqb-false, ne-eqb}
+use Rattle.checks.specs.Checks.{pick}
 use Rattle.checks.proofs.Rules.{neither}
 use Rattle.measures.specs.declared.Extent3d.{Extent3d}
 use Rattle.measures.specs.declared.OptionU64.{OptionU64}
+use Rattle.measures.specs.Measure.{isEmpty}
 use Rattle.levels.specs.declared.TextureDimension.{TextureDimension}
 use Rattle.levels.specs.declared.TextureDimension.the-variants.{D1, D2, D3}
 use Rattle.levels.specs.Level.{dimensionOf}
-use Rattle.refusals.specs.declared.CopySide.{CopySide}
-use Rattle.refusals.specs.declared.CopySide.the-variants.{Source, Destination}
-use Rattle.refusals.specs.declared.TransferError.{TransferError}
-use Rattle.refusals.specs.declared.Checked.{Checked}
-use Rattle.refusals.specs.declared.Checked.the-variants as C
-use Rattle.refusals.specs.Answers.{after}
 use Rattle.records.specs.declared.Buffer.{Buffer}
 use Rattle.records.specs.declared.Device.{Device}
 use Rattle.records.specs.declared.Texture.{Texture}
 use Rattle.records.specs.declared.TexelCopyTextureInfo.{TexelCopyTextureInfo}
 use Rattle.records.specs.declared.TexelCopyBufferLayout.{TexelCopyBufferLayout}
-use Rattle.records.specs.Limits.{maxBufferSize}
+use Rattle.records.proofs.Bounded.{buffer-laws}
 use Rattle.ranges.specs.declared.CopyExtent.{CopyExtent}
 use Rattle.ranges.specs.Range.{copyExtent, layersOf, arrayLayerCount}
-use Rattle.ranges.proofs.Accepted.{every-range}
-use Rattle.linear.specs.declared.Dense.{Dense}
-use Rattle.linear.specs.declared.LinearData.{LinearData}
-use Rattle.linear.specs.declared.LinearChecked.{LinearChecked}
-use Rattle.linear.specs.declared.LinearChecked.the-variants as N
-use Rattle.linear.specs.Linear.{stacked, dataOf, denseOf, linearData}
-use Rattle.linear.specs.Laws.{LinearLaws, imageStride, given}
-use Rattle.linear.proofs.Accepted.{every-linear}
-use Rattle.selectors.specs.declared.TextureCopyBase.{TextureCopyBase}
-use Rattle.init.specs.declared.TextureInitRange.{TextureInitRange}
-use Rattle.copies.specs.Copies.{isEmpty}
+use Rattle.linear.specs.Linear.{stacked, imageStride, dataOf, denseOf}
+use Rattle.linear.specs.Laws.{LinearLaws}
+use Rattle.buffer_copies.specs.declared.BufferPlan.{BufferPlan}
 use Rattle.buffer_copies.specs.declared.BufferPlanned.{BufferPlanned}
 use Rattle.buffer_copies.specs.declared.BufferPlanned.the-variants as B
 use Rattle.buffer_copies.specs.BufferCopies as K
+use Rattle.buffer_copies.proofs.Accepted.{every-copy-law as buffers-law}
+use Rattle.buffer_texture_plans.specs.declared.BufferTexturePlan.{BufferTexturePlan}
 use Rattle.buffer_texture_plans.specs.Plan.{firstRegion, planOf}
 use Rattle.buffer_texture.specs.declared.BufferTexturePlanned.{BufferTexturePlanned}
 use Rattle.buffer_texture.specs.declared.BufferTexturePlanned.the-variants as U
-use Rattle.buffer_texture.specs.Plan.{after-linear, uploadPlaced, uploadAllowed, uploadRanged, bufferToTexture, downloadPlaced, downloadAllowed, downloadRanged, textureToBuffer}
-use Rattle.texture_plans.specs.declared.TextureSide.{TextureSide}
+use Rattle.buffer_texture.specs.Copy.{Direction, Upload, Download, Copy}
+use Rattle.buffer_texture.specs.Plan.{dense, planFor, planned, bufferToTexture, textureToBuffer}
+use Rattle.buffer_texture.specs.Laws.{Accepted}
+use Rattle.buffer_texture.proofs.Accepted.{every-copy-law as copies-law, as-uploaded, as-downloaded}
+use Rattle.records.specs.declared.TextureSide.{TextureSide}
 use Rattle.texture_plans.specs.Plan as X
 use Rattle.texture_copies.specs.declared.TexturePlanned.{TexturePlanned}
 use Rattle.texture_copies.specs.declared.TexturePlanned.the-variants as T
-use Rattle.texture_copies.specs.Plan.{usable, selectedCopy, rangedCopy, textureToTexture}
+use Rattle.texture_copies.specs.Plan.{textureToTexture}
 use Rattle.region_output.specs.Asking.{buffers}
 use Rattle.region_output.specs.Numbers.{optional, place, sides, numbers}
 use Rattle.region_output.proofs.Kept.{Small, FitBufferTexture, FitTextures}
-use Rattle.region_output.proofs.Accepted.{past, passed, ranged, selected, buffer-few, Figures, base-small, extent-small}
+use Rattle.region_output.proofs.Accepted.{Figures, base-small, extent-small}
 
 -- ---- between buffers
 
@@ -64,33 +56,21 @@ unfoldable pub BuffersFit : BufferPlanned → Type 0
 BuffersFit (B.Plan p) = 0 < p .left → Small (numbers (buffers (p .region)))
 BuffersFit (B.Refused e) = Unit {0}
 
-no-buffers : (e : TransferError) → BuffersFit (B.Refused e)
+buffers-by : (r : BufferPlanned) → ((p : BufferPlan) → r ≡ B.Plan p → 0 < p .left → Small (numbers (buffers (p .region)))) → BuffersFit r
 unfolding BuffersFit
-no-buffers e = tt
-
-buffers-line : (t : Bool) (e : TransferError) (rest : BufferPlanned) → (t ≡ false → BuffersFit rest) → BuffersFit (stop-if t (B.Refused e) rest)
-buffers-line = past BuffersFit B.Refused no-buffers
-
-buffers-rule : (m : Checked) (rest : BufferPlanned) → (m ≡ C.GoOn → BuffersFit rest) → BuffersFit (after m B.Refused rest)
-buffers-rule = passed BuffersFit B.Refused no-buffers
-
-buffers-plan : (from to n : ℕ) → from ≤ maxBufferSize → to ≤ maxBufferSize → n ≤ maxBufferSize → BuffersFit (B.Plan (K.planOf from to n))
-unfolding BuffersFit K.planOf numbers
-buffers-plan from to n f t h some = (omega (arith, f), (omega (arith, t), (omega (arith, h), tt)))
+buffers-by (B.Plan p) h = h p refl
+buffers-by (B.Refused e) h = tt
 
 pub buffers-fit :
     (device : Device) (i : ℕ) (src : Buffer) (from j : ℕ) (dst : Buffer) (to : ℕ) (size : OptionU64) → BuffersFit (K.bufferToBuffer device i src from j dst to size)
-unfolding K.bufferToBuffer K.sizedCopy K.fittingCopy
+unfolding K.bufferToBuffer K.planOf numbers
 buffers-fit device i src from j dst to size =
-    buffers-rule _ _ λ a. buffers-rule _ _ λ b.
-    buffers-line _ _ _ λ other. buffers-line _ _ _ λ reads. buffers-line _ _ _ λ writes. buffers-line _ _ _ λ start.
-    buffers-line _ _ _ λ whole. buffers-line _ _ _ λ x. buffers-line _ _ _ λ y. buffers-line _ _ _ λ fact.
-    buffers-line _ _ _ λ end. buffers-line _ _ _ λ dst-start. buffers-line _ _ _ λ dst-end.
-    let n = K.sizeOf size (src .size - from) in
-    let s = buffer-few src Source a in
-    let f = ltb-false (src .size) from start in
-    buffers-plan from to n (omega (arith, s, f)) (omega (arith, buffer-few dst Destination b, ltb-false (dst .size) to dst-start))
-    (omega (arith, s, ltb-false (src .size - from) n end))
+    let c : K.Copy = record { device = device; src-index = i; src = src; src-offset = from; dst-index = j; dst = dst; dst-offset = to; size = size } in
+    buffers-by (K.bufferToBuffer device i src from j dst to size) λ p e some.
+    let a = buffers-law c .is-accepted p e in
+    let s = buffer-laws src (a .0 .src-bounds) in
+    let d = buffer-laws dst (a .0 .dst-bounds) in
+    rw (← a .1) (omega (arith, s, a .0 .src-inside), (omega (arith, d, a .0 .dst-inside), (omega (arith, s, a .0 .src-inside), tt)))
 
 -- ---- between a buffer and a texture
 
@@ -98,20 +78,10 @@ unfoldable pub BufferTextureFit : BufferTexturePlanned → Type 0
 BufferTextureFit (U.Plan p) = 0 < p .left → FitBufferTexture p
 BufferTextureFit (U.Refused e) = Unit {0}
 
-no-copy : (e : TransferError) → BufferTextureFit (U.Refused e)
+copy-by : (r : BufferTexturePlanned) → ((p : BufferTexturePlan) → r ≡ U.Plan p → 0 < p .left → FitBufferTexture p) → BufferTextureFit r
 unfolding BufferTextureFit
-no-copy e = tt
-
-copy-line : (t : Bool) (e : TransferError) (rest : BufferTexturePlanned) → (t ≡ false → BufferTextureFit rest) → BufferTextureFit (stop-if t (U.Refused e) rest)
-copy-line = past BufferTextureFit U.Refused no-copy
-
-copy-rule : (m : Checked) (rest : BufferTexturePlanned) → (m ≡ C.GoOn → BufferTextureFit rest) → BufferTextureFit (after m U.Refused rest)
-copy-rule = passed BufferTextureFit U.Refused no-copy
-
-laid : (m : LinearChecked) (k : LinearData → BufferTexturePlanned) → ((s : LinearData) → m ≡ N.GoOn s → BufferTextureFit (k s)) → BufferTextureFit (after-linear m k)
-unfolding after-linear
-laid (N.GoOn s) k h = h s refl
-laid (N.Refused e) k h = no-copy e
+copy-by (U.Plan p) h = h p refl
+copy-by (U.Refused e) h = tt
 
 -- no more layers than images
 layers-few : (d : TextureDimension) (n : ℕ) → 0 < n → layersOf d n - 1 ≤ n - 1
@@ -132,59 +102,45 @@ not-empty : (t : Bool) (n : ℕ) → 0 < pick t 0 n → t ≡ false
 not-empty true n h = absurd (omega (arith, h))
 not-empty false n h = refl
 
-module _ (b : Buffer) (layout : TexelCopyBufferLayout) (t : Texture) (view : TexelCopyTextureInfo) (size : Extent3d)
-    (f : Figures view size) (bytes : Small (optional (layout .«bytes_per_row») ∷ [])) (rows : Small (optional (layout .«rows_per_image») ∷ [])) where
-  abbrev dense : Dense
-  dense = denseOf (t .format) (view .aspect) size
+module _ (c : Copy) (f : Figures (c .view) (c .size)) (bytes : Small (optional (c .layout .«bytes_per_row») ∷ [])) (rows : Small (optional (c .layout .«rows_per_image») ∷ [])) where
+  abbrev images : ℕ
+  images = c .size .«depth_or_array_layers»
 
   -- the last image lies inside the buffer
-  last-inside : (l : LinearLaws layout (b .size) dense) → 0 < size .«depth_or_array_layers» → (n : ℕ) → n ≤ size .«depth_or_array_layers» - 1 → layout .offset + n * imageStride layout dense ≤ b .size
+  last-inside : LinearLaws (c .layout) (c .buffer .size) (dense c) → 0 < images → (n : ℕ) → n ≤ images - 1 → c .layout .offset + n * imageStride (c .layout) (dense c) ≤ c .buffer .size
   unfolding stacked denseOf
   last-inside l some n few =
       let inside = l .inside in
-      let within = rw (ne-eqb (size .«depth_or_array_layers») 0 (λ z. omega (arith, z, some))) at inside in
-      omega (arith, within, mul-le-mul-right (imageStride layout dense) few)
+      let within = rw (ne-eqb images 0 (λ z. omega (arith, z, some))) at inside in
+      omega (arith, within, mul-le-mul-right (imageStride (c .layout) (dense c)) few)
 
-  copy-plan :
-      (side : CopySide) (v : CopyExtent) (n : ℕ) (base : TextureCopyBase) (s : LinearData) (r : TextureInitRange) → b .size ≤ maxBufferSize
-      → (copyExtent t size ≡ v) × (arrayLayerCount t size ≡ n) → Small (place base) → LinearLaws layout (b .size) dense × (given layout dense ≡ s)
-      → BufferTextureFit (U.Plan (planOf layout size v n base s side r))
-  unfolding BufferTextureFit planOf firstRegion arrayLayerCount dataOf
-  copy-plan side v n base s r few ranged placed linear left =
-      let full = not-empty (isEmpty size) n left in
-      let some = image-some size full in
-      rw (full, ← linear .1, ← ranged .0, ← ranged .1)
+  plan-fits : Accepted c → 0 < planFor c .left → FitBufferTexture (planFor c)
+  unfolding planFor planOf firstRegion arrayLayerCount dataOf
+  plan-fits a left =
+      let full = not-empty (isEmpty (c .size)) _ left in
+      let some = image-some (c .size) full in
+      rw full
       (record {
-        last = omega (arith, few, last-inside (linear .0) some _ (layers-few (dimensionOf (t .dimension)) (size .«depth_or_array_layers») some));
+        last = omega (arith, buffer-laws (c .buffer) (a .buffer-bounds), last-inside (a .linear) some _ (layers-few (dimensionOf (c .texture .dimension)) images some));
         bytes = bytes;
         rows = rows;
-        base = placed;
-        size = extent-small view t size f;
+        base = base-small (c .view) (c .texture) (c .size) f;
+        size = extent-small (c .view) (c .texture) (c .size) f;
       })
 
-  went-on : (side : CopySide) (s : LinearData) → linearData layout (t .format) (view .aspect) (b .size) side size ≡ N.GoOn s → LinearLaws layout (b .size) dense × (given layout dense ≡ s)
-  unfolding linearData
-  went-on side s h = every-linear .rule layout (b .size) side dense .went-on s h
+  copy-fits : (r : BufferTexturePlanned) → r ≡ planned c → BufferTextureFit r
+  copy-fits r is = copy-by r λ p e left. let a = copies-law c .is-accepted p (sym is ∙ e) in rw (← a .1) (plan-fits (a .0) (rw (a .1) left))
 
-  pub upload-fits : (device : Device) → BufferTextureFit (bufferToTexture device b layout t view size)
-  unfolding bufferToTexture uploadRanged uploadAllowed uploadPlaced
-  upload-fits device =
-      copy-rule _ _ λ buffer. copy-rule _ _ λ texture.
-      ranged BufferTextureFit U.Refused no-copy _ _ λ v n range. selected BufferTextureFit U.Refused no-copy _ _ λ s base chosen.
-      copy-line _ _ _ λ reads. copy-line _ _ _ λ writes. copy-rule _ _ λ format. copy-rule _ _ λ layouts.
-      laid _ _ λ span linear. copy-line _ _ _ λ fact.
-      let r = every-range view t Destination size .went-on v n range in
-      copy-plan Source v n base span _ (buffer-few b Source buffer) (r .1, r .2) (base-small view t size f s base chosen) (went-on Source span linear)
+module _ (device : Device) (b : Buffer) (layout : TexelCopyBufferLayout) (t : Texture) (view : TexelCopyTextureInfo) (size : Extent3d)
+    (f : Figures view size) (bytes : Small (optional (layout .«bytes_per_row») ∷ [])) (rows : Small (optional (layout .«rows_per_image») ∷ [])) where
+  abbrev copyOf : Direction → Copy
+  copyOf way = record { direction = way; device = device; buffer = b; layout = layout; texture = t; view = view; size = size }
 
-  pub download-fits : (device : Device) → BufferTextureFit (textureToBuffer device t view b layout size)
-  unfolding textureToBuffer downloadRanged downloadAllowed downloadPlaced
-  download-fits device =
-      copy-rule _ _ λ texture. copy-rule _ _ λ buffer.
-      ranged BufferTextureFit U.Refused no-copy _ _ λ v n range. selected BufferTextureFit U.Refused no-copy _ _ λ s base chosen.
-      copy-line _ _ _ λ reads. copy-line _ _ _ λ level. copy-rule _ _ λ format. copy-rule _ _ λ layouts.
-      laid _ _ λ span linear. copy-line _ _ _ λ fact. copy-line _ _ _ λ writes.
-      let r = every-range view t Source size .went-on v n range in
-      copy-plan Destination v n base span _ (buffer-few b Destination buffer) (r .1, r .2) (base-small view t size f s base chosen) (went-on Destination span linear)
+  pub upload-fits : BufferTextureFit (bufferToTexture device b layout t view size)
+  upload-fits = copy-fits (copyOf Upload) f bytes rows _ (as-uploaded (copyOf Upload) refl)
+
+  pub download-fits : BufferTextureFit (textureToBuffer device t view b layout size)
+  download-fits = copy-fits (copyOf Download) f bytes rows _ (as-downloaded (copyOf Download) refl)
 
 -- ---- between textures
 

@@ -10,10 +10,10 @@ use native.Mathlib.Nat.{mod-lt, mod-eq-of-lt, div-le-self, suc-mul}
 use borrow.Author.Tests.{ne-eqb}
 use lib.Dec.{eqb}
 use Rattle.checks.specs.Checks.{pick, stop-if}
-use Rattle.formats.specs.Sheet.{DEPTH, STENCIL, PLANE-0, PLANE-1}
+use Rattle.flags.specs.FormatAspects.{DEPTH, STENCIL, PLANE-0, PLANE-1}
 use Rattle.ranges.specs.declared.CopyExtent.{CopyExtent}
 use Rattle.selectors.specs.declared.TextureCopyBase.{TextureCopyBase}
-use Rattle.copies.specs.Copies.{nextLayer}
+use Rattle.selectors.specs.Selector.{nextLayer}
 use Rattle.buffer_copies.specs.BufferCopies as K
 use Rattle.buffer_texture_plans.specs.declared.BufferTexturePlan.{BufferTexturePlan}
 use Rattle.buffer_texture_plans.specs.Asking as L

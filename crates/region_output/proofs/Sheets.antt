@@ -25,12 +25,12 @@ use Rattle.texts.specs.Text.{lineText}
 use Rattle.plans.specs.Regions.{leftOf}
 use Rattle.requests.specs.declared.Planned.{Planned}
 use Rattle.requests.specs.declared.Planned.the-variants as P
-use Rattle.requests.specs.Requests.{ofBuffers, ofBufferTexture, ofTextures, plannedOf}
+use Rattle.requests.specs.Requests.{ofBuffers, ofBufferTexture, ofTextures}
 use Rattle.fields.specs.declared.Line.{Line}
 use Rattle.sheet.specs.declared.Parts.{Parts}
 use Rattle.sheet.specs.Rows.{copies, rowOf}
 use Rattle.job_records.specs.Records.{valueOf, wordOf, wordOrAbsent, extentOf, originOf, viewOf, layoutOf}
-use Rattle.jobs.specs.Jobs.{textureAt, bufferAt, bufferRequest, copyRequest, eitherWay, sideOf, textureRequest, namedBuffers, buffersPlanned, namedCopy, copyPlanned, namedTextures, texturesPlanned, linePlanned}
+use Rattle.jobs.specs.Jobs.{sideAt, namedBuffers, buffersPlanned, namedCopy, copyPlanned, namedTextures, texturesPlanned, linePlanned}
 use Rattle.lines.specs.Lines.{sheetText, copyText, refusalText, answerText}
 use Rattle.listing.specs.Listing.{noPlan, planOf, regionsText, copyAnswer, answerAt, copiesText, texturePlaces, bufferPlaces, deviceAt, listingFrom, listingOf}
 use Rattle.region_output.specs.Numbers.{optional}
@@ -96,20 +96,19 @@ module _ (s ts bs : List ℕ) (device : Device) (l : Line) where
   line-stop = A.past PlannedFit P.Refused no-plan
 
   buffers-line : PlannedFit (buffersPlanned s bs device l)
-  unfolding buffersPlanned namedBuffers plannedOf bufferRequest
+  unfolding buffersPlanned namedBuffers
   buffers-line = line-stop _ _ _ λ i. line-stop _ _ _ λ j. of-buffers _ _ _ (buffers-fit device _ _ _ _ _ _ _)
 
-  named-copy : (up : Bool) → PlannedFit (plannedOf (eitherWay up (copyRequest device l (bufferAt s bs (wordOf l 1)) (textureAt s ts (wordOf l 5)))))
-  unfolding plannedOf eitherWay copyRequest layoutOf
-  named-copy true = of-copy _ _ _ (upload-fits _ _ _ _ _ (figures l 6 11) (option-small l 3) (option-small l 4) device)
-  named-copy false = of-copy _ _ _ (download-fits _ _ _ _ _ (figures l 6 11) (option-small l 3) (option-small l 4) device)
-
   copy-line : PlannedFit (copyPlanned s ts bs device l)
-  unfolding copyPlanned namedCopy
-  copy-line = line-stop _ _ _ λ i. line-stop _ _ _ λ j. named-copy (eqb (valueOf l 0) 2)
+  unfolding copyPlanned namedCopy layoutOf
+  copy-line =
+      line-stop _ _ _ λ i. line-stop _ _ _ λ j.
+      either-way PlannedFit (eqb (valueOf l 0) 2) _ _
+      (of-copy _ _ _ (upload-fits device _ _ _ _ _ (figures l 6 11) (option-small l 3) (option-small l 4)))
+      (of-copy _ _ _ (download-fits device _ _ _ _ _ (figures l 6 11) (option-small l 3) (option-small l 4)))
 
   textures-line : PlannedFit (texturesPlanned s ts l)
-  unfolding texturesPlanned namedTextures plannedOf textureRequest sideOf
+  unfolding texturesPlanned namedTextures sideAt
   textures-line = line-stop _ _ _ λ i. line-stop _ _ _ λ j. of-textures _ _ _ (textures-fit _ _ _ _ _ (figures l 2 13) (figures l 8 13))
 
   line-fits : PlannedFit (linePlanned s ts bs device l)

@@ -14,6 +14,7 @@ use Rattle.texture_copies.specs.declared.TexturePlanned.the-variants as X
 use Rattle.texture_copies.specs.Plan.{textureToTexture}
 use Rattle.plans.specs.declared.Plan.the-variants.{Buffers, BufferTexture, Textures}
 use Rattle.buffer_regions.specs.Regions as O
+use Rattle.buffer_texture.specs.Copy.{Copy}
 use Rattle.ownership.specs.Copy as B
 use Rattle.ownership.specs.Empty.{NoSize}
 use Rattle.texture_regions.specs.Regions as T
@@ -28,11 +29,11 @@ BufferCopies =
 -- with a buffer and a texture, of no size of 0, and of one
 abbrev pub BufferTextureCopies : Type 0
 BufferTextureCopies =
-    (c : B.Copy) (p : BufferTexturePlan) → B.planned (c .reads) c ≡ U.Plan p → 0 < c .size .width → 0 < c .size .height → 0 < B.depth c
+    (c : Copy) (p : BufferTexturePlan) → B.planned c ≡ U.Plan p → 0 < c .size .width → 0 < c .size .height → 0 < B.depth c
     → Gives (BufferTexture p) (map bufferTexture (B.regionsOf c))
 
 abbrev pub EmptyCopies : Type 0
-EmptyCopies = (c : B.Copy) (p : BufferTexturePlan) → B.planned (c .reads) c ≡ U.Plan p → NoSize c → Gives (BufferTexture p) []
+EmptyCopies = (c : Copy) (p : BufferTexturePlan) → B.planned c ≡ U.Plan p → NoSize c → Gives (BufferTexture p) []
 
 abbrev pub TextureCopies : Type 0
 TextureCopies =

@@ -8,13 +8,8 @@ use native.Mathlib.Omega.{arith}
 use lib.Dec.{eqb}
 use lib.ListN.{length, take, drop, length-append, length-drop}
 use Rattle.checks.specs.Checks.{pick}
-use Rattle.plans.specs.Regions.{leftOf}
-use Rattle.sheet.specs.declared.Sheet.{Sheet}
-use Rattle.sheet.specs.declared.Sheet.the-variants as W
-use Rattle.sheet.specs.Sheet.{sheetOf}
 use Rattle.texts.proofs.Puts.{put-take, put-length}
-use Rattle.listing.specs.declared.Lister.{Lister}
-use Rattle.listing.specs.Listing.{Fills, Ends, regionsText, noPlan, illState, begunAt, textLeft, textureLines, bufferLines, listingFrom, listingOf}
+use Rattle.listing.specs.Listing.{Fills, Ends, listingOf}
 use Rattle.replay.specs.declared.Head.{Head}
 use Rattle.replay.specs.declared.Head.the-variants as H
 use Rattle.replay.specs.declared.Verdict.{Verdict}

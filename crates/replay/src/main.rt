@@ -5,15 +5,11 @@ ghost use mathlib.Core.List.{_++_};
 ghost use Prim.Native.Nat.{_+_, _≤_, _<_};
 ghost use lib.ListN.{length, drop};
 ghost use Rattle.texts.specs.Text.{decimal, Put};
-ghost use Rattle.sheet.specs.Sheet.{sheetOf};
-ghost use Rattle.listing.specs.Listing.{textLeft, textureLines, bufferLines, listingOf};
+ghost use Rattle.listing.specs.Listing.{restOf, listingOf};
 ghost use Rattle.replay.specs.Replay.{starts, same, SameLaw, differs, Compares, itemOf, headOf, listBytes, sheetWord, endLine, Replays, textBytes, differsText, countsText, illText};
 use fields::Field;
 use libc::STDOUT_FILENO;
-use listing::Lister;
-use sheet::Part;
-use sheet::Parts;
-use sheet::Sheet;
+use listing::Listing;
 
 // Room for the list and a byte more, which tells that there is more.
 const SPACE: usize = 262144;
@@ -25,7 +21,7 @@ const TEXT_BYTES: usize = 64;
 pub struct Compared {
     pub agrees: bool,
     pub count: usize,
-    pub lister: Lister,
+    pub listing: Listing,
 }
 
 // Where an item's sheet begins, where its listing does, and the place behind it.
@@ -65,73 +61,38 @@ pub fn same_law()
 {}
 
 // As much of the listing as a buffer holds, beside what is left of the record.
-fn compare_some(
-    st: Lister,
-    s: &[u8],
-    textures: &[usize],
-    buffers: &[usize],
-    recorded: &[u8],
-) -> Compared
-    ensures { λ r. ⌜ Compares (textLeft (now (s .entry)) (now (textures .entry)) (now (buffers .entry)) st) (textLeft (now (s .entry)) (now (textures .entry)) (now (buffers .entry)) (r .lister)) (now (recorded .entry)) (r .count) (r .agrees) ⌝ }
+fn compare_some(st: Listing, s: &[u8], recorded: &[u8]) -> Compared
+    ensures { λ r. ⌜ Compares (restOf (now (s .entry)) st) (restOf (now (s .entry)) (r .listing)) (now (recorded .entry)) (r .count) (r .agrees) ⌝ }
 {
     let mut out = [0u8; 65536];
-    let filled = listing::fill(st, s, textures, buffers, &mut out);
+    let filled = listing::fill(st, s, &mut out);
     let count = filled.count;
-    let lister = filled.lister;
+    let listing = filled.listing;
     let agrees = starts_with(recorded, &out[..count]);
     Compared {
         agrees,
         count,
-        lister,
+        listing,
     }
-}
-
-fn compare(s: &[u8], textures: &[usize], buffers: &[usize], read: Sheet, recorded: &[u8]) -> bool
-    requires { ⌜ read ≡ sheetOf (now s) ⌝ }
-    requires { ⌜ now textures ≡ textureLines (now s) read ⌝ }
-    requires { ⌜ now buffers ≡ bufferLines (now s) read ⌝ }
-    ensures { λ r. ⌜ r ≡ same (listingOf (now (s .entry))) (now (recorded .entry)) ⌝ }
-{
-    let mut st = listing::begin(s, read);
-    let mut at: usize = 0;
-    loop {
-        let part = compare_some(st, s, textures, buffers, &recorded[at..]);
-        if !part.agrees {
-            return false;
-        }
-        if part.count == 0 {
-            return at == recorded.len();
-        }
-        let next = part.lister;
-        at += part.count;
-        st = next;
-    }
-}
-
-// A good sheet, with the places of its records. Its counts are at most 64, so none is cut off.
-fn compare_good(s: &[u8], p: Parts, recorded: &[u8]) -> bool
-    requires { ⌜ Sheet.Good p ≡ sheetOf (now s) ⌝ }
-    ensures { λ r. ⌜ r ≡ same (listingOf (now (s .entry))) (now (recorded .entry)) ⌝ }
-{
-    let t = p.textures;
-    let b = p.buffers;
-    let mut textures = [0usize; sheet::MAX_RECORDS];
-    let mut buffers = [0usize; sheet::MAX_RECORDS];
-    sheet::find_places(s, sheet::TEXTURES, t.count, t.first, &mut textures);
-    sheet::find_places(s, sheet::BUFFERS, b.count, b.first, &mut buffers);
-    let m = sheet::kept(t.count);
-    let n = sheet::kept(b.count);
-    compare(s, &textures[..m], &buffers[..n], Sheet::Good(p), recorded)
 }
 
 // Whether the sheet's listing is the recorded one, byte by byte.
 fn lists_as(s: &[u8], recorded: &[u8]) -> bool
     ensures { λ r. ⌜ r ≡ same (listingOf (now (s .entry))) (now (recorded .entry)) ⌝ }
 {
-    let read = sheet::read_sheet(s);
-    match read {
-        Sheet::Good(p) => compare_good(s, p, recorded),
-        Sheet::Ill(line) => compare(s, &[], &[], Sheet::Ill(line), recorded),
+    let mut st = listing::start(s);
+    let mut at: usize = 0;
+    loop {
+        let part = compare_some(st, s, &recorded[at..]);
+        if !part.agrees {
+            return false;
+        }
+        if part.count == 0 {
+            return at == recorded.len();
+        }
+        let next = part.listing;
+        at += part.count;
+        st = next;
     }
 }
 

@@ -1,5 +1,13 @@
 -- A copy of any of the four kinds: its plan or refusal is that of its kind, its ranges with the indices that the copy names.
 use Prim.Native.Nat.{ℕ}
+use Rattle.measures.specs.declared.Extent3d.{Extent3d}
+use Rattle.measures.specs.declared.OptionU64.{OptionU64}
+use Rattle.records.specs.declared.Buffer.{Buffer}
+use Rattle.records.specs.declared.Device.{Device}
+use Rattle.records.specs.declared.Texture.{Texture}
+use Rattle.records.specs.declared.TextureSide.{TextureSide}
+use Rattle.records.specs.declared.TexelCopyTextureInfo.{TexelCopyTextureInfo}
+use Rattle.records.specs.declared.TexelCopyBufferLayout.{TexelCopyBufferLayout}
 use Rattle.buffer_copies.specs.declared.BufferPlanned.{BufferPlanned}
 use Rattle.buffer_copies.specs.declared.BufferPlanned.the-variants as B
 use Rattle.buffer_copies.specs.BufferCopies.{bufferToBuffer}
@@ -9,11 +17,6 @@ use Rattle.buffer_texture.specs.Plan.{bufferToTexture, textureToBuffer}
 use Rattle.texture_copies.specs.declared.TexturePlanned.{TexturePlanned}
 use Rattle.texture_copies.specs.declared.TexturePlanned.the-variants as T
 use Rattle.texture_copies.specs.Plan.{textureToTexture}
-use Rattle.requests.specs.declared.BufferRequest.{BufferRequest}
-use Rattle.requests.specs.declared.BufferTextureRequest.{BufferTextureRequest}
-use Rattle.requests.specs.declared.TextureRequest.{TextureRequest}
-use Rattle.requests.specs.declared.Request.{Request}
-use Rattle.requests.specs.declared.Request.the-variants as Q
 use Rattle.plans.specs.declared.Plan.the-variants.{Buffers, BufferTexture, Textures}
 use Rattle.requests.specs.declared.Planned.{Planned}
 use Rattle.requests.specs.declared.Planned.the-variants as P
@@ -31,24 +34,16 @@ unfoldable pub ofTextures : ℕ → ℕ → TexturePlanned → Planned
 ofTextures src dst (T.Plan p) = P.Plan (Textures p) (textureRanges src dst (p .ranges))
 ofTextures src dst (T.Refused e) = P.Refused e
 
-abbrev pub plannedBuffers : BufferRequest → Planned
-plannedBuffers r =
-    ofBuffers (r .«src_index») (r .«dst_index») (bufferToBuffer (r .device) (r .«src_index») (r .src) (r .«src_offset») (r .«dst_index») (r .dst) (r .«dst_offset») (r .size))
+-- ---- by kind: i is the index of the source, j that of the destination
 
-abbrev pub plannedUpload : BufferTextureRequest → Planned
-plannedUpload r =
-    ofBufferTexture (r .«texture_index») (r .«buffer_index») (bufferToTexture (r .device) (r .buffer) (r .layout) (r .texture) (r .view) (r .size))
+abbrev pub plannedBuffers : Device → ℕ → Buffer → ℕ → ℕ → Buffer → ℕ → OptionU64 → Planned
+plannedBuffers device i src from j dst to size = ofBuffers i j (bufferToBuffer device i src from j dst to size)
 
-abbrev pub plannedDownload : BufferTextureRequest → Planned
-plannedDownload r =
-    ofBufferTexture (r .«texture_index») (r .«buffer_index») (textureToBuffer (r .device) (r .texture) (r .view) (r .buffer) (r .layout) (r .size))
+abbrev pub plannedUpload : Device → ℕ → Buffer → TexelCopyBufferLayout → ℕ → Texture → TexelCopyTextureInfo → Extent3d → Planned
+plannedUpload device i buffer layout j texture view size = ofBufferTexture j i (bufferToTexture device buffer layout texture view size)
 
-abbrev pub plannedTextures : TextureRequest → Planned
-plannedTextures r =
-    ofTextures (r .«src_index») (r .«dst_index») (textureToTexture (r .«src_index») (r .src) (r .«dst_index») (r .dst) (r .size))
+abbrev pub plannedDownload : Device → ℕ → Texture → TexelCopyTextureInfo → ℕ → Buffer → TexelCopyBufferLayout → Extent3d → Planned
+plannedDownload device i texture view j buffer layout size = ofBufferTexture i j (textureToBuffer device texture view buffer layout size)
 
-unfoldable pub plannedOf : Request → Planned
-plannedOf (Q.BufferToBuffer r) = plannedBuffers r
-plannedOf (Q.BufferToTexture r) = plannedUpload r
-plannedOf (Q.TextureToBuffer r) = plannedDownload r
-plannedOf (Q.TextureToTexture r) = plannedTextures r
+abbrev pub plannedTextures : ℕ → TextureSide → ℕ → TextureSide → Extent3d → Planned
+plannedTextures i src j dst size = ofTextures i j (textureToTexture i src j dst size)

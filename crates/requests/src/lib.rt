@@ -1,7 +1,7 @@
 // A copy of any of the four kinds, with the records that it names: its plan and ranges, or its refusal.
 ghost use mathlib.Core.Path.{_≡_};
 ghost use mathlib.Core.List.{[]};
-ghost use Rattle.requests.specs.Requests.{ofBuffers, ofBufferTexture, ofTextures, plannedBuffers, plannedUpload, plannedDownload, plannedTextures, plannedOf};
+ghost use Rattle.requests.specs.Requests.{ofBuffers, ofBufferTexture, ofTextures, plannedBuffers, plannedUpload, plannedDownload, plannedTextures};
 ghost use Prim.Native.Nat.{_≤_};
 ghost use Rattle.requests.specs.Ranges.{bufferSlot, noRanges, bufferRanges, textureAndBuffer, copyRanges, twoTextures, textureRanges, slotCount, countOf};
 use buffer_copies::BufferPlan;
@@ -21,51 +21,11 @@ use records::Device;
 use records::TexelCopyBufferLayout;
 use records::TexelCopyTextureInfo;
 use records::Texture;
+use records::TextureSide;
 use refusals::TransferError;
 use texture_copies::TexturePlanned;
 use texture_plans::TexturePlan;
 use texture_plans::TextureRanges;
-use texture_plans::TextureSide;
-
-// A copy between buffers, which are told apart by their indices.
-pub struct BufferRequest {
-    pub device: Device,
-    pub src_index: u32,
-    pub src: Buffer,
-    pub src_offset: u64,
-    pub dst_index: u32,
-    pub dst: Buffer,
-    pub dst_offset: u64,
-    pub size: OptionU64,
-}
-
-// A copy between a buffer and a texture, either way.
-pub struct BufferTextureRequest {
-    pub device: Device,
-    pub buffer_index: u32,
-    pub buffer: Buffer,
-    pub layout: TexelCopyBufferLayout,
-    pub texture_index: u32,
-    pub texture: Texture,
-    pub view: TexelCopyTextureInfo,
-    pub size: Extent3d,
-}
-
-// A copy between textures, which are told apart by their indices.
-pub struct TextureRequest {
-    pub src_index: u32,
-    pub src: TextureSide,
-    pub dst_index: u32,
-    pub dst: TextureSide,
-    pub size: Extent3d,
-}
-
-pub enum Request {
-    BufferToBuffer(BufferRequest),
-    BufferToTexture(BufferTextureRequest),
-    TextureToBuffer(BufferTextureRequest),
-    TextureToTexture(TextureRequest),
-}
 
 // A range of the texture or the buffer of an index, or none.
 pub enum RangeSlot {
@@ -218,35 +178,45 @@ fn of_textures(src: u32, dst: u32, answer: TexturePlanned) -> Planned
     }
 }
 
-fn plan_buffers(r: BufferRequest) -> Planned
-    ensures { λ p. ⌜ p ≡ plannedBuffers r ⌝ }
+// The plan of a copy between buffers, or its refusal. Buffers, and textures, are told apart by their indices.
+pub fn plan_buffers(
+    device: Device,
+    src_index: u32,
+    src: Buffer,
+    src_offset: u64,
+    dst_index: u32,
+    dst: Buffer,
+    dst_offset: u64,
+    size: OptionU64,
+) -> Planned
+    ensures { λ r. ⌜ r ≡ plannedBuffers device «src_index» src «src_offset» «dst_index» dst «dst_offset» size ⌝ }
 {
-    let device = r.device;
-    let src = r.src;
-    let dst = r.dst;
-    let size = r.size;
     let answer = buffer_copies::copy_buffer_to_buffer(
         device,
-        r.src_index,
+        src_index,
         src,
-        r.src_offset,
-        r.dst_index,
+        src_offset,
+        dst_index,
         dst,
-        r.dst_offset,
+        dst_offset,
         size,
     );
-    of_buffers(r.src_index, r.dst_index, answer)
+    of_buffers(src_index, dst_index, answer)
 }
 
-fn plan_upload(r: BufferTextureRequest) -> Planned
-    ensures { λ p. ⌜ p ≡ plannedUpload r ⌝ }
+// The same of a copy from a buffer into a texture.
+pub fn plan_upload(
+    device: Device,
+    buffer_index: u32,
+    buffer: Buffer,
+    layout: TexelCopyBufferLayout,
+    texture_index: u32,
+    texture: Texture,
+    view: TexelCopyTextureInfo,
+    size: Extent3d,
+) -> Planned
+    ensures { λ r. ⌜ r ≡ plannedUpload device «buffer_index» buffer layout «texture_index» texture view size ⌝ }
 {
-    let device = r.device;
-    let buffer = r.buffer;
-    let layout = r.layout;
-    let texture = r.texture;
-    let view = r.view;
-    let size = r.size;
     let answer = buffer_texture::copy_buffer_to_texture(
         device,
         buffer,
@@ -255,18 +225,22 @@ fn plan_upload(r: BufferTextureRequest) -> Planned
         view,
         size,
     );
-    of_buffer_texture(r.texture_index, r.buffer_index, answer)
+    of_buffer_texture(texture_index, buffer_index, answer)
 }
 
-fn plan_download(r: BufferTextureRequest) -> Planned
-    ensures { λ p. ⌜ p ≡ plannedDownload r ⌝ }
+// The same of a copy from a texture into a buffer.
+pub fn plan_download(
+    device: Device,
+    texture_index: u32,
+    texture: Texture,
+    view: TexelCopyTextureInfo,
+    buffer_index: u32,
+    buffer: Buffer,
+    layout: TexelCopyBufferLayout,
+    size: Extent3d,
+) -> Planned
+    ensures { λ r. ⌜ r ≡ plannedDownload device «texture_index» texture view «buffer_index» buffer layout size ⌝ }
 {
-    let device = r.device;
-    let buffer = r.buffer;
-    let layout = r.layout;
-    let texture = r.texture;
-    let view = r.view;
-    let size = r.size;
     let answer = buffer_texture::copy_texture_to_buffer(
         device,
         texture,
@@ -275,29 +249,21 @@ fn plan_download(r: BufferTextureRequest) -> Planned
         layout,
         size,
     );
-    of_buffer_texture(r.texture_index, r.buffer_index, answer)
+    of_buffer_texture(texture_index, buffer_index, answer)
 }
 
-fn plan_textures(r: TextureRequest) -> Planned
-    ensures { λ p. ⌜ p ≡ plannedTextures r ⌝ }
+// The same of a copy between textures.
+pub fn plan_textures(
+    src_index: u32,
+    src: TextureSide,
+    dst_index: u32,
+    dst: TextureSide,
+    size: Extent3d,
+) -> Planned
+    ensures { λ r. ⌜ r ≡ plannedTextures «src_index» src «dst_index» dst size ⌝ }
 {
-    let src = r.src;
-    let dst = r.dst;
-    let size = r.size;
-    let answer = texture_copies::copy_texture_to_texture(r.src_index, src, r.dst_index, dst, size);
-    of_textures(r.src_index, r.dst_index, answer)
-}
-
-// The plan of a copy, or its refusal.
-pub fn plan_copy(request: Request) -> Planned
-    ensures { λ r. ⌜ r ≡ plannedOf request ⌝ }
-{
-    match request {
-        Request::BufferToBuffer(r) => plan_buffers(r),
-        Request::BufferToTexture(r) => plan_upload(r),
-        Request::TextureToBuffer(r) => plan_download(r),
-        Request::TextureToTexture(r) => plan_textures(r),
-    }
+    let answer = texture_copies::copy_texture_to_texture(src_index, src, dst_index, dst, size);
+    of_textures(src_index, dst_index, answer)
 }
 
 fn slot_count(slot: RangeSlot) -> u32

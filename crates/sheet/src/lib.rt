@@ -1,7 +1,7 @@
 // The job sheet: four sections of lines, each after its count. Nothing of it is copied: a record is found by the place of its
 // line, and read again where it is wanted.
 ghost use mathlib.Core.Path.{_≡_};
-ghost use Prim.Native.Nat.{_≤_, min};
+ghost use Prim.Native.Nat.{_≤_};
 ghost use lib.ListN.{length};
 ghost use lib.Seq.{sets};
 ghost use Rattle.fields.specs.Line.{lineOf};
@@ -21,7 +21,7 @@ pub const BUFFERS: usize = 2;
 pub const COPIES: usize = 3;
 
 // The most bytes of a sheet.
-pub const SHEET_BYTES: usize = 65536;
+const SHEET_BYTES: usize = 65536;
 
 // How many lines a section has, where the first begins, and the place behind the last.
 pub struct Part {
@@ -137,17 +137,6 @@ pub fn read_row(s: &[u8], section: usize, at: usize) -> Line
 
 // The most textures, and the most buffers, of a sheet.
 pub const MAX_RECORDS: usize = 64;
-
-// How many places of a section are kept: all, since a good sheet has no more.
-pub fn kept(count: usize) -> usize
-    ensures { λ r. ⌜ r ≡ min count 64 ⌝ }
-{
-    if count > MAX_RECORDS {
-        MAX_RECORDS
-    } else {
-        count
-    }
-}
 
 // Where the lines of a section begin, as many as there is room for. What the slice has behind them is kept.
 pub fn find_places(s: &[u8], section: usize, count: usize, first: usize, places: &mut [usize])

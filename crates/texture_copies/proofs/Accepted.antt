@@ -17,7 +17,7 @@ use Rattle.refusals.proofs.Order.{none-found, none-in, all-pass, flat-empty, te
 use Rattle.records.specs.Bounds.{textureChecks}
 use Rattle.ranges.proofs.Accepted.{Run, run-of, run-goes, every-range}
 use Rattle.selectors.specs.Selector.{selectorChecks, sameTextureChecks}
-use Rattle.texture_plans.specs.declared.TextureSide.{TextureSide}
+use Rattle.records.specs.declared.TextureSide.{TextureSide}
 use Rattle.texture_plans.specs.declared.TexturePlan.{TexturePlan}
 use Rattle.texture_copies.specs.declared.TexturePlanned.{TexturePlanned}
 use Rattle.texture_copies.specs.declared.TexturePlanned.the-variants as P

@@ -11,7 +11,7 @@ use Rattle.refusals.proofs.Order.{line}
 use Rattle.ranges.specs.Range.{rangeChecked}
 use Rattle.selectors.specs.Selector.{baseOf, selectorChecked}
 use Rattle.rule_answers.proofs.Rules.{past-rule, past-range, past-selector}
-use Rattle.texture_plans.specs.declared.TextureSide.{TextureSide}
+use Rattle.records.specs.declared.TextureSide.{TextureSide}
 use Rattle.texture_copies.specs.declared.TexturePlanned.{TexturePlanned}
 use Rattle.texture_copies.specs.declared.TexturePlanned.the-variants as P
 use Rattle.texture_copies.specs.Copy.{isOneTexture, planFor}

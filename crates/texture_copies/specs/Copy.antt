@@ -10,7 +10,7 @@ use Rattle.formats.specs.Aspects.{chosenAspects, aspectSpecificFormat, subsampl
 use Rattle.records.specs.Extents.{logicalExtent}
 use Rattle.ranges.specs.Range.{copyExtent, arrayLayerCount}
 use Rattle.selectors.specs.Selector.{baseOf}
-use Rattle.texture_plans.specs.declared.TextureSide.{TextureSide}
+use Rattle.records.specs.declared.TextureSide.{TextureSide}
 use Rattle.texture_plans.specs.declared.TexturePlan.{TexturePlan}
 use Rattle.texture_plans.specs.Plan.{planOf}
 

@@ -3,7 +3,8 @@ use mathlib.Core.Path.{_≡_}
 use mathlib.Core.Bool.{true, false}
 use Prim.Native.Nat.{_+_, _≤_}
 use lib.Dec.{eqb}
-use Rattle.flags.specs.Flags.{holds}
+use Rattle.flags.specs.TextureUsages as TextureUsages
+use Rattle.flags.specs.Flags.{contains}
 use Rattle.formats.specs.Sheet.{aspectsOf, removeSrgb}
 use Rattle.records.specs.Bounds.{textureInBounds}
 use Rattle.ranges.specs.Laws.{RangeLaws}
@@ -34,8 +35,8 @@ pub record Accepted (c : BetweenTextures) : Type 0 where
   pub dst-aspects : chosen (c .dst) ≡ aspectsOf (c .dst .texture .format)
   pub samples : c .src .texture .«sample_count» ≡ c .dst .texture .«sample_count»
   -- COPY_SRC, COPY_DST
-  pub src-usage : holds (c .src .texture .usage .0) 1 ≡ true
-  pub dst-usage : holds (c .dst .texture .usage .0) 2 ≡ true
+  pub src-usage : contains (c .src .texture .usage .0) TextureUsages.COPY-SRC ≡ true
+  pub dst-usage : contains (c .dst .texture .usage .0) TextureUsages.COPY-DST ≡ true
 
 abbrev pub planned : BetweenTextures → TexturePlanned
 planned c = textureToTexture (c .src-index) (c .src) (c .dst-index) (c .dst) (c .size)

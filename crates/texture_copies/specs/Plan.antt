@@ -5,7 +5,8 @@ use mathlib.Core.List.{[], _∷_, flatten}
 use lib.Dec.{eqb}
 use Rattle.checks.specs.Checks.{pick}
 use Rattle.measures.specs.declared.Extent3d.{Extent3d}
-use Rattle.flags.specs.Flags.{holds}
+use Rattle.flags.specs.TextureUsages as TextureUsages
+use Rattle.flags.specs.Flags.{contains}
 use Rattle.refusals.specs.declared.CopySide.the-variants.{Source, Destination}
 use Rattle.refusals.specs.declared.TextureErrorDimension.the-variants.{X, Y}
 use Rattle.refusals.specs.declared.TransferError.the-variants as E
@@ -13,7 +14,7 @@ use Rattle.refusals.specs.Order.{Checks, refuse-if, decided}
 use Rattle.records.specs.Bounds.{textureChecks}
 use Rattle.ranges.specs.Range.{subjectOf, dimensionChecks, rangeChecks}
 use Rattle.selectors.specs.Selector.{selectorChecks, sameTextureChecks}
-use Rattle.texture_plans.specs.declared.TextureSide.{TextureSide}
+use Rattle.records.specs.declared.TextureSide.{TextureSide}
 use Rattle.texture_copies.specs.declared.TexturePlanned.{TexturePlanned}
 use Rattle.texture_copies.specs.declared.TexturePlanned.the-variants as P
 use Rattle.texture_copies.specs.Copy.{BetweenTextures, between, isOneTexture, splits, formatsDiffer, planeWidth, planeHeight, lacksAspects, layers, planFor}
@@ -39,8 +40,8 @@ copyChecks c =
     ∷ refuse-if (not (splits c) && lacksAspects (c .src)) E.CopySrcMissingAspects  -- 26
     ∷ refuse-if (lacksAspects (c .dst)) E.CopyDstMissingAspects  -- 27
     ∷ refuse-if (not (eqb (c .src .texture .«sample_count») (c .dst .texture .«sample_count»))) (E.SampleCountNotEqual (c .src .texture .«sample_count») (c .dst .texture .«sample_count»))  -- 36
-    ∷ refuse-if (not (holds (c .src .texture .usage .0) 1)) (E.MissingTextureUsage Source)  -- 6
-    ∷ refuse-if (not (holds (c .dst .texture .usage .0) 2)) (E.MissingTextureUsage Destination)  -- 6
+    ∷ refuse-if (not (contains (c .src .texture .usage .0) TextureUsages.COPY-SRC)) (E.MissingTextureUsage Source)  -- 6
+    ∷ refuse-if (not (contains (c .dst .texture .usage .0) TextureUsages.COPY-DST)) (E.MissingTextureUsage Destination)  -- 6
     ∷ []
 
 -- the textures are told apart by their indices

@@ -6,7 +6,8 @@ use mathlib.Core.List.{[], _∷_, flatten}
 use lib.Dec.{eqb}
 use Rattle.checks.specs.Checks.{pick, stop-if, _$_}
 use Rattle.measures.specs.declared.Extent3d.{Extent3d}
-use Rattle.flags.specs.Flags.{holds}
+use Rattle.flags.specs.TextureUsages as TextureUsages
+use Rattle.flags.specs.Flags.{contains}
 use Rattle.formats.specs.Sheet.{aspectsOf}
 use Rattle.refusals.specs.declared.CopySide.the-variants.{Source, Destination}
 use Rattle.refusals.specs.declared.TextureErrorDimension.the-variants.{X, Y}
@@ -18,7 +19,7 @@ use Rattle.ranges.specs.Range.{subjectOf, dimensionChecks, rangeChecked}
 use Rattle.selectors.specs.declared.TextureCopyBase.{TextureCopyBase}
 use Rattle.selectors.specs.Selector.{selectorChecked, sameTextureChecks}
 use Rattle.rule_answers.specs.Stages.{after, after-range, after-selector}
-use Rattle.texture_plans.specs.declared.TextureSide.{TextureSide}
+use Rattle.records.specs.declared.TextureSide.{TextureSide}
 use Rattle.texture_plans.specs.Plan.{planOf}
 use Rattle.texture_copies.specs.declared.TexturePlanned.{TexturePlanned}
 use Rattle.texture_copies.specs.declared.TexturePlanned.the-variants as P
@@ -44,8 +45,8 @@ withinOne same src dst layers = pick same (sameTextureChecks (src .view) (dst .v
 unfoldable pub usable : TextureSide → TextureSide → Extent3d → CopyExtent → CopyExtent → ℕ → TextureCopyBase → TextureCopyBase → TexturePlanned
 usable src dst size srcExtent dstExtent layers srcBase dstBase =
     stop-if (not (eqb (src .texture .«sample_count») (dst .texture .«sample_count»))) (P.Refused (E.SampleCountNotEqual (src .texture .«sample_count») (dst .texture .«sample_count»))) $
-    stop-if (not (holds (src .texture .usage .0) 1)) (P.Refused (E.MissingTextureUsage Source)) $
-    stop-if (not (holds (dst .texture .usage .0) 2)) (P.Refused (E.MissingTextureUsage Destination)) $
+    stop-if (not (contains (src .texture .usage .0) TextureUsages.COPY-SRC)) (P.Refused (E.MissingTextureUsage Source)) $
+    stop-if (not (contains (dst .texture .usage .0) TextureUsages.COPY-DST)) (P.Refused (E.MissingTextureUsage Destination)) $
     P.Plan (planOf src dst size srcExtent dstExtent layers srcBase dstBase)
 
 -- 12 source, destination; 26 (not for the split); 27

@@ -21,6 +21,7 @@ use ranges::CopyExtent;
 use ranges::RangeChecked;
 use ranges::Subject;
 use records::Texture;
+use records::TextureSide;
 use refusals::Checked;
 use refusals::CopySide;
 use refusals::TextureErrorDimension;
@@ -28,7 +29,6 @@ use refusals::TransferError;
 use selectors::SelectorChecked;
 use selectors::TextureCopyBase;
 use texture_plans::TexturePlan;
-use texture_plans::TextureSide;
 
 pub enum TexturePlanned {
     Plan(TexturePlan),

@@ -2,7 +2,7 @@
 use Prim.Native.Nat.{ℕ, _-_, _/_}
 use lib.Dec.{eqb}
 use Rattle.checks.specs.Checks.{pick, stop-if, _$_}
-use Rattle.formats.specs.Sheet.{DEPTH, STENCIL, PLANE-0, PLANE-1}
+use Rattle.flags.specs.FormatAspects.{DEPTH, STENCIL, PLANE-0, PLANE-1}
 use Rattle.ranges.specs.declared.CopyExtent.{CopyExtent}
 use Rattle.selectors.specs.declared.TextureCopyBase.{TextureCopyBase}
 use Rattle.selectors.specs.Selector.{nextLayer}

@@ -9,7 +9,7 @@ use Rattle.selectors.specs.declared.TextureCopyBase.{TextureCopyBase}
 use Rattle.init.specs.declared.TextureInitRange.{TextureInitRange}
 use Rattle.init.specs.Init.{srcTextureRange, dstTextureRange}
 use Rattle.measures.specs.Measure.{isEmpty}
-use Rattle.texture_plans.specs.declared.TextureSide.{TextureSide}
+use Rattle.records.specs.declared.TextureSide.{TextureSide}
 use Rattle.texture_plans.specs.declared.CopyParts.{CopyParts}
 use Rattle.texture_plans.specs.declared.CopyParts.the-variants.{Whole, DepthStencil, Planes}
 use Rattle.texture_plans.specs.declared.TextureRanges.{TextureRanges}

@@ -3,7 +3,7 @@ ghost use mathlib.Core.Path.{_≡_};
 ghost use Prim.Native.Nat.{_*_, _/_, _<_, _≤_, _^_, min};
 ghost use lib.Dec.{eqb};
 ghost use Rattle.checks.specs.Checks.{pick};
-ghost use Rattle.formats.specs.Sheet.{DEPTH, STENCIL, PLANE-0, PLANE-1};
+ghost use Rattle.flags.specs.FormatAspects.{DEPTH, STENCIL, PLANE-0, PLANE-1};
 ghost use Rattle.measures.specs.Measure.{isEmpty};
 ghost use Rattle.init.specs.Init.{srcTextureRange, dstTextureRange};
 ghost use Rattle.texture_plans.specs.Plan.{lesser, partsOf, partCount, rangesOf, planOf};
@@ -13,15 +13,8 @@ use init::TextureInitRange;
 use measures::Extent3d;
 use measures::Origin3d;
 use ranges::CopyExtent;
-use records::TexelCopyTextureInfo;
-use records::Texture;
+use records::TextureSide;
 use selectors::TextureCopyBase;
-
-// One side of the copy: a texture, and the part of it.
-pub struct TextureSide {
-    pub texture: Texture,
-    pub view: TexelCopyTextureInfo,
-}
 
 // What a layer is copied as.
 pub enum CopyParts {

@@ -18,14 +18,19 @@ use Rattle.formats.specs.declared.TextureAspect.{TextureAspect}
 use Rattle.formats.specs.declared.TextureAspect.the-variants.{All, StencilOnly, DepthOnly, Plane0, Plane1, Plane2}
 use Rattle.formats.specs.Sheet.{isFormat}
 use Rattle.records.specs.declared.Texture.{Texture}
+use Rattle.records.specs.declared.TextureSide.{TextureSide}
 use Rattle.records.specs.Limits.{maxSide}
 use Rattle.records.specs.Bounds.{within, sizeInBounds, fieldsInBounds, samplesInBounds, formatSuits, textureInBounds}
 use Rattle.records.specs.Extents.{logicalExtent}
 use Rattle.init.specs.declared.MemoryInitKind.{MemoryInitKind}
 use Rattle.init.specs.declared.MemoryInitKind.the-variants.{ImplicitlyInitialized, NeedsInitializedMemory}
 use Rattle.init.specs.Init as I
+<<<<<<< HEAD
+use Rattle.copies.specs.Copies as C
+=======
 use Rattle.measures.specs.Measure as M
-use Rattle.texture_plans.specs.declared.TextureSide.{TextureSide}
+use Rattle.records.specs.declared.TextureSide.{TextureSide}
+>>>>>>> textures
 use Rattle.texture_plans.specs.Plan as N
 use Rattle.texture_copies.specs.Copy as T
 use Rattle.texture_regions.specs.Regions.{Copy, dimension, isEmpty}

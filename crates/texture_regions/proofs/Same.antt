@@ -11,7 +11,7 @@ use borrow.Author.Tests.{eqb-true, eq-eqb, ltb-true, not-true}
 use Rattle.checks.specs.Checks.{stop-if}
 use Rattle.checks.proofs.Rules.{both-true, either}
 use Rattle.checks.proofs.Tables.{everyBelow, at-below}
-use Rattle.flags.specs.Flags.{holds, met}
+use Rattle.flags.specs.Flags.{meet}
 use Rattle.levels.specs.declared.TextureDimension.{TextureDimension}
 use Rattle.levels.specs.declared.TextureDimension.the-variants.{D1, D2, D3}
 use Rattle.levels.specs.Level.{dimensionOf}
@@ -20,10 +20,15 @@ use Rattle.formats.specs.declared.TextureAspect.the-variants.{All, StencilOnly,
 use Rattle.formats.specs.Sheet.{formats, rowOf, aspectsOf, isFormat, isCombinedDepthStencil, isMultiPlanar, removeSrgb}
 use Rattle.formats.specs.Aspects.{askedOf, chosenAspects, planeFormat, aspectSpecificFormat}
 use Rattle.records.specs.declared.Texture.{Texture}
+use Rattle.records.specs.declared.TextureSide.{TextureSide}
 use Rattle.records.specs.Bounds.{textureInBounds, fieldsInBounds, samplesInBounds, formatSuits}
 use Rattle.ranges.specs.Range as R
 use Rattle.selectors.specs.Selector as S
-use Rattle.texture_plans.specs.declared.TextureSide.{TextureSide}
+<<<<<<< HEAD
+use Rattle.texture_plans.specs.declared.TexturePlan.{TexturePlan}
+=======
+use Rattle.records.specs.declared.TextureSide.{TextureSide}
+>>>>>>> textures
 use Rattle.texture_plans.specs.declared.CopyParts.the-variants.{Whole, DepthStencil, Planes}
 use Rattle.texture_plans.specs.Plan as N
 use Rattle.texture_copies.specs.Copy.{isThis, isPlaneSplit}
@@ -72,7 +77,7 @@ sameBits : TextureAspect → ℕ → Bool
 sameBits asked format = eqb (chosenAspects format asked) (chosen asked (formatBits format))
 
 all-same : (asked : TextureAspect) → everyBelow (sameBits asked) 22 ≡ true
-unfolding sameBits chosenAspects askedOf aspectsOf rowOf formats met holds chosen formatBits isAsked
+unfolding sameBits chosenAspects askedOf aspectsOf rowOf formats meet chosen formatBits isAsked
 all-same All = refl
 all-same StencilOnly = refl
 all-same DepthOnly = refl

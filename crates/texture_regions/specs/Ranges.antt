@@ -11,7 +11,7 @@ use Rattle.formats.specs.declared.TextureAspect.the-variants.{All, StencilOnly,
 use Rattle.init.specs.declared.MemoryInitKind.{MemoryInitKind}
 use Rattle.init.specs.declared.MemoryInitKind.the-variants.{ImplicitlyInitialized, NeedsInitializedMemory}
 use Rattle.init.specs.declared.TextureInitRange.{TextureInitRange}
-use Rattle.texture_plans.specs.declared.TextureSide.{TextureSide}
+use Rattle.records.specs.declared.TextureSide.{TextureSide}
 use Rattle.texture_plans.specs.declared.TextureRanges.{TextureRanges}
 use Rattle.texture_plans.specs.declared.TextureRanges.the-variants.{Given, Absent}
 use Rattle.texture_regions.specs.Regions.{Copy, dimension, isEmpty}

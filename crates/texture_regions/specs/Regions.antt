@@ -12,7 +12,7 @@ use Rattle.formats.specs.declared.TextureAspect.{TextureAspect}
 use Rattle.formats.specs.declared.TextureAspect.the-variants.{All, StencilOnly, DepthOnly, Plane0, Plane1, Plane2}
 use Rattle.ranges.specs.declared.CopyExtent.{CopyExtent}
 use Rattle.selectors.specs.declared.TextureCopyBase.{TextureCopyBase}
-use Rattle.texture_plans.specs.declared.TextureSide.{TextureSide}
+use Rattle.records.specs.declared.TextureSide.{TextureSide}
 use Rattle.texture_plans.specs.declared.TextureCopy.{TextureCopy}
 
 pub record Copy : Type 0 where

@@ -6,8 +6,7 @@ use Prim.Native.Nat.{ℕ, _%_}
 use native.Mathlib.Omega.{arith}
 use lib.Dec.{eqb}
 use borrow.Author.Tests.{eqb-true, eq-eqb, not-true, not-false}
-use Rattle.checks.specs.Checks.{stop-if}
-use Rattle.checks.proofs.Rules.{both-true, not-both, went-past, goes-past}
+use Rattle.checks.proofs.Rules.{both-true, not-both}
 use Rattle.checks.proofs.Tables.{everyBelow, at-below}
 use Rattle.measures.specs.declared.OptionU32.{OptionU32}
 use Rattle.measures.specs.declared.OptionU32.the-variants.{Given, Absent}
@@ -17,13 +16,13 @@ use Rattle.formats.specs.declared.TextureAspect.{TextureAspect}
 use Rattle.formats.specs.declared.TextureAspect.the-variants.{All, StencilOnly, DepthOnly, Plane0, Plane1, Plane2}
 use Rattle.formats.specs.Sheet.{isDepthStencil}
 use Rattle.formats.specs.Aspects.{blockCopySize}
-use Rattle.refusals.specs.declared.TransferError.{TransferError}
-use Rattle.refusals.specs.declared.TransferError.the-variants as E
 use Rattle.refusals.specs.declared.Checked.{Checked}
 use Rattle.refusals.specs.declared.Checked.the-variants as C
+use Rattle.refusals.specs.Order.{Checks, refuse-if, first, decided, checked}
+use Rattle.refusals.proofs.Order.{all-pass, none-in, test-fails, test-off, checked-passes}
 use Rattle.records.specs.declared.Texture.{Texture}
 use Rattle.records.specs.declared.TexelCopyBufferLayout.{TexelCopyBufferLayout}
-use Rattle.format_rules.specs.Rules.{isDepthOnly, srcFormat, dstFormat, offsetAlignment, isUnalignedRow, layoutChecked, textureBufferCopy}
+use Rattle.format_rules.specs.Rules.{isDepthOnly, srcFormatChecks, dstFormatChecks, offsetAlignment, isUnalignedRow, layoutChecks}
 use Rattle.webgpu.specs.Formats.{none, formats, formatOf, anyDepthOrStencil, isDepthOrStencil, named}
 use Rattle.webgpu.specs.WebGpu.{taken, validOne, bytesOfOne, blockBytes, AlignedLayout, TextureBufferCopy}
 use Rattle.webgpu.specs.Agreement.{bits, formatRule, InStandard, BufferCopies}
@@ -52,7 +51,7 @@ agrees reads aspect format =
     && (isDepthOrStencil format || not (eqb (bytesOfOne (named (formatOf format) aspect)) none)))
 
 all-agree : (reads : Bool) (aspect : TextureAspect) → everyBelow (agrees reads aspect) 21 ≡ true
-unfolding agrees lacking goesB isOne stop-if srcFormat dstFormat isDepthOnly formats formatOf anyDepthOrStencil isDepthOrStencil named taken
+unfolding agrees lacking goesB isOne refuse-if first decided srcFormatChecks dstFormatChecks isDepthOnly formats formatOf anyDepthOrStencil isDepthOrStencil named taken
 all-agree true All = refl
 all-agree true StencilOnly = refl
 all-agree true DepthOnly = refl
@@ -167,9 +166,6 @@ module _ (reads : Bool) (format : ℕ) (aspect : TextureAspect) (layout : TexelC
 
 -- ---- the rule
 
-no-refusal : {e : TransferError} → C.Refused e ≡ C.GoOn → ⊥
-no-refusal h = let z : _≡_ {A = ℕ} 0 1 = cc in omega arith
-
 off : (s t : Bool) → (s ≡ true → t ≡ false) → (s && t) ≡ false
 off true t h = h refl
 off false t h = refl
@@ -181,41 +177,42 @@ module _ (reads aligned : Bool) (t : Texture) (aspect : TextureAspect) (layout :
   abbrev A : ℕ
   A = offsetAlignment (t .format) aspect
 
-  abbrev row-line : Checked
-  row-line = stop-if (aligned && isUnalignedRow (layout .«bytes_per_row»)) (C.Refused E.UnalignedBytesPerRow) C.GoOn
-
-  abbrev offset-line : Checked
-  offset-line = stop-if (aligned && not (multiple (layout .offset) A)) (C.Refused (E.UnalignedBufferOffset (layout .offset))) row-line
-
-  abbrev aspect-line : Checked
-  aspect-line = stop-if (not (isOne chosen)) (C.Refused E.CopyAspectNotOne) offset-line
+  abbrev rule : Checks
+  rule = layoutChecks aspect chosen t layout aligned
 
   g : Agrees reads (t .format) aspect
   g = agreed reads (t .format) aspect s
 
-  standard : formatRule reads (t .format) aspect ≡ C.GoOn → textureBufferCopy aspect chosen t layout aligned ≡ C.GoOn → TextureBufferCopy reads aligned t aspect layout
-  unfolding textureBufferCopy layoutChecked
+  standard : formatRule reads (t .format) aspect ≡ C.GoOn → checked rule ≡ C.GoOn → TextureBufferCopy reads aligned t aspect layout
+  unfolding layoutChecks
   standard f e =
-      let samples = went-past Checked (not (eqb (t .«sample_count») 1)) (C.Refused (E.InvalidSampleCount (t .«sample_count»))) aspect-line C.GoOn e no-refusal in
-      let one = went-past Checked (not (isOne chosen)) (C.Refused E.CopyAspectNotOne) offset-line C.GoOn (samples .1) no-refusal in
-      let offset = went-past Checked (aligned && not (multiple (layout .offset) A)) (C.Refused (E.UnalignedBufferOffset (layout .offset))) row-line C.GoOn (one .1) no-refusal in
-      let row = went-past Checked (aligned && isUnalignedRow (layout .«bytes_per_row»)) (C.Refused E.UnalignedBytesPerRow) C.GoOn C.GoOn (offset .1) no-refusal in
+      let n = none-in rule (checked-passes rule e) in
+      let one = not-false (isOne chosen) (test-fails _ _ (n 1)) in
       record {
-        one-sample = eqb-true (t .«sample_count») 1 (not-false _ (samples .0));
-        allowed = sym (g .allowed) ∙ rw (goes-by (formatRule reads (t .format) aspect) f, not-false (isOne chosen) (one .0));
-        layout-aligned = λ a. aligned-of reads (t .format) aspect layout g (not-false (multiple (layout .offset) A) (not-both aligned _ (offset .0) a)) (not-both aligned _ (row .0) a);
+        one-sample = eqb-true (t .«sample_count») 1 (not-false _ (test-fails _ _ (n 0)));
+        allowed = sym (g .allowed) ∙ rw (goes-by (formatRule reads (t .format) aspect) f, one);
+        layout-aligned = λ a. aligned-of reads (t .format) aspect layout g (not-false (multiple (layout .offset) A) (not-both aligned _ (test-fails _ _ (n 2)) a)) (not-both aligned _ (test-fails _ _ (n 3)) a);
       }
 
   both : TextureBufferCopy reads aligned t aspect layout → (goesB (formatRule reads (t .format) aspect) ≡ true) × (isOne chosen ≡ true)
   both v = both-true (goesB (formatRule reads (t .format) aspect)) (isOne chosen) (g .allowed ∙ v .allowed)
 
-  ours : TextureBufferCopy reads aligned t aspect layout → textureBufferCopy aspect chosen t layout aligned ≡ C.GoOn
-  unfolding textureBufferCopy layoutChecked
+  ours : TextureBufferCopy reads aligned t aspect layout → checked rule ≡ C.GoOn
+  unfolding layoutChecks
   ours v =
-      goes-past Checked (not (eqb (t .«sample_count») 1)) (C.Refused (E.InvalidSampleCount (t .«sample_count»))) aspect-line (rw (eq-eqb (t .«sample_count») 1 (v .one-sample)))
-      ∙ goes-past Checked (not (isOne chosen)) (C.Refused E.CopyAspectNotOne) offset-line (rw (both v .1))
-      ∙ goes-past Checked (aligned && not (multiple (layout .offset) A)) (C.Refused (E.UnalignedBufferOffset (layout .offset))) row-line (off aligned _ (λ a. rw (offset-by reads (t .format) aspect layout g (v .layout-aligned a) (isDepthOrStencil (t .format)) refl)))
-      ∙ goes-past Checked (aligned && isUnalignedRow (layout .«bytes_per_row»)) (C.Refused E.UnalignedBytesPerRow) C.GoOn (off aligned _ (λ a. row-by (layout .«bytes_per_row») (v .layout-aligned a .row)))
+      all-pass Checked C.Refused C.GoOn rule (
+        test-off _ _ (rw (eq-eqb (t .«sample_count») 1 (v .one-sample))),
+        (
+          test-off _ _ (rw (both v .1)),
+          (
+            test-off _ _ (off aligned _ (λ a. rw (offset-by reads (t .format) aspect layout g (v .layout-aligned a) (isDepthOrStencil (t .format)) refl))),
+            (
+              test-off _ _ (off aligned _ (λ a. row-by (layout .«bytes_per_row») (v .layout-aligned a .row))),
+              tt,
+            ),
+          ),
+        ),
+      )
 
 pub buffer-copies : BufferCopies
 buffer-copies reads aligned t aspect layout s = (

@@ -24,9 +24,8 @@ use Rattle.linear.specs.declared.Dense.{Dense}
 use Rattle.linear.specs.declared.LinearData.{LinearData}
 use Rattle.linear.specs.declared.LinearChecked.the-variants as N
 use Rattle.linear.specs.Linear as linear
-use Rattle.linear.specs.Linear.{lacks, stacked, severalRows, severalImages, dataOf, denseOf, linearData}
-use Rattle.linear.specs.Laws.{rowStride, imageRows, imageStride, imageBytes, totalBytes, given}
-use Rattle.linear.proofs.Accepted.{every-linear}
+use Rattle.linear.specs.Linear.{lacks, stacked, severalRows, severalImages, rowStride, imageRows, imageStride, imageBytes, totalBytes, dataOf, linearData, denseOf, linearChecked}
+use Rattle.linear.proofs.Accepted.{linear-goes, linear-went}
 use Rattle.webgpu.specs.Formats.{formatOf}
 use Rattle.webgpu.specs.WebGpu.{blockBytes, orZero, IsGiven, AtLeast, requiredBytesInCopy}
 use Rattle.webgpu.specs.Agreement.{InStandard, Fits32, Figures, LinearRules, Standard, requiredBytes}
@@ -177,10 +176,10 @@ module _ (layout : TexelCopyBufferLayout) (format : ℕ) (aspect : TextureAspect
   unfolding requiredBytesInCopy
   required-is = rw (wide, high, deep)
 
-  holds : (m : LinearData) → linearData layout format aspect bufferSize side size ≡ N.GoOn m → Standard layout format aspect size bufferSize × (m .«bytes_in_copy» ≡ requiredBytes layout format aspect size bufferSize)
-  unfolding linearData dataOf
+  holds : (m : LinearData) → linearChecked layout format aspect bufferSize side size ≡ N.GoOn m → Standard layout format aspect size bufferSize × (m .«bytes_in_copy» ≡ requiredBytes layout format aspect size bufferSize)
+  unfolding dataOf
   holds m e =
-      let r = every-linear .rule layout bufferSize side d .went-on m e in
+      let r = linear-went layout format aspect bufferSize side size m e in
       let l = r .0 in
       let rows : 1 < d .rows → IsGiven (layout .«bytes_per_row») = λ h. is-given (layout .«bytes_per_row») (severalRows d) (l .bytes-given) (several-rows d h) in
       let images : 1 < d .images → IsGiven (layout .«bytes_per_row») × IsGiven (layout .«rows_per_image») = λ h. (is-given (layout .«bytes_per_row») (severalRows d) (l .bytes-given) (several-images d h .0), is-given (layout .«rows_per_image») (severalImages d) (l .rows-given) (several-images d h .1)) in
@@ -195,8 +194,8 @@ module _ (layout : TexelCopyBufferLayout) (format : ℕ) (aspect : TextureAspect
         sym (ap (λ (n : LinearData). n .«bytes_in_copy») (r .1)) ∙ t,
       )
 
-  goes-on : Standard layout format aspect size bufferSize → (m : LinearData) × (linearData layout format aspect bufferSize side size ≡ N.GoOn m)
-  unfolding linearData severalRows severalImages
+  goes-on : Standard layout format aspect size bufferSize → (m : LinearData) × (linearChecked layout format aspect bufferSize side size ≡ N.GoOn m)
+  unfolding severalRows severalImages
   goes-on v =
       let row-small : d .«row_bytes» < 2 ^ 32 = rw wide (f .row-small) in
       let rows-small : d .rows < 2 ^ 32 = rw high (f .rows-small) in
@@ -205,8 +204,8 @@ module _ (layout : TexelCopyBufferLayout) (format : ℕ) (aspect : TextureAspect
       let t = total-is layout d rows images ∙ required-is in
       let row = fits32 (layout .«bytes_per_row») (d .«row_bytes») (f .bytes-field) row-small in
       let high-rows = fits32 (layout .«rows_per_image») (d .rows) (f .rows-field) rows-small in (
-        given layout d,
-        every-linear .rule layout bufferSize side d .goes-on (f .buffer-field)
+        linearData layout d,
+        linear-goes layout format aspect bufferSize side size (f .buffer-field)
             (record {
               row-fits = or-else (layout .«bytes_per_row») (d .«row_bytes») (rw wide (v .row-fits));
               rows-fit = or-else (layout .«rows_per_image») (d .rows) (rw high (v .image-fits));

@@ -13,7 +13,7 @@ use Rattle.checks.proofs.Rules.{all-true}
 use Rattle.checks.proofs.Tables.{everyBelow, at-below}
 use Rattle.measures.specs.declared.OptionU32.the-variants.{Given, Absent}
 use Rattle.measures.specs.Measure.{orElse}
-use Rattle.flags.specs.Flags.{holds, met}
+use Rattle.flags.specs.Flags.{meet}
 use Rattle.formats.specs.declared.TextureAspect.{TextureAspect}
 use Rattle.formats.specs.declared.TextureAspect.the-variants.{All, StencilOnly, DepthOnly, Plane0, Plane1, Plane2}
 use Rattle.formats.specs.Sheet as P
@@ -61,7 +61,7 @@ unfolding formatTests P.formats P.rowOf P.blockWidth P.blockHeight P.aspectsOf P
 formats-pass = refl
 
 aspects-pass : (a : TextureAspect) → everyBelow (λ f. every (aspectTests a f)) 21 ≡ true
-unfolding aspectTests P.formats P.rowOf P.aspectsOf askedOf chosenAspects bytesOf met holds stop-if formats formatOf named
+unfolding aspectTests P.formats P.rowOf P.aspectsOf askedOf chosenAspects bytesOf meet stop-if formats formatOf named
 aspects-pass All = refl
 aspects-pass StencilOnly = refl
 aspects-pass DepthOnly = refl

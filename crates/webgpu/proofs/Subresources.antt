@@ -1,6 +1,6 @@
 -- Copies within one texture against the standard's sets of subresources.
 -- Assumes nothing.
-use mathlib.Core.Path.{_≡_, refl, sym, ap, _∙_}
+use mathlib.Core.Path.{_≡_, refl, sym, _∙_}
 use mathlib.Core.Bool.{Bool, true, false, _&&_, _||_}
 use mathlib.Core.List.{List, [], _∷_}
 use mathlib.Core.Logic.{_⊎_, inl, inr, ⊎-elim}
@@ -8,22 +8,23 @@ use Prim.Native.Nat.{ℕ, _+_, _<_, max}
 use native.Mathlib.Omega.{arith}
 use lib.Dec.{eqb, ltb}
 use borrow.Author.Tests.{lt-ltb, ltb-true, eq-eqb, eqb-true, eqb-false}
-use Rattle.checks.specs.Checks.{every, stop-if}
-use Rattle.checks.proofs.Rules.{either, both-true, all-true, went-past, goes-past}
+use Rattle.checks.specs.Checks.{every}
+use Rattle.checks.proofs.Rules.{AllTrue, either, both-true, all-true}
 use Rattle.checks.proofs.Tables.{everyBelow, at-below}
 use Rattle.measures.specs.declared.Extent3d.{Extent3d}
-use Rattle.flags.specs.Flags.{holds, shared, meets}
+use Rattle.flags.specs.Flags.{meets}
 use Rattle.levels.specs.declared.TextureDimension.{TextureDimension}
 use Rattle.levels.specs.declared.TextureDimension.the-variants.{D1, D2, D3}
 use Rattle.formats.specs.declared.TextureAspect.{TextureAspect}
 use Rattle.formats.specs.declared.TextureAspect.the-variants.{All, StencilOnly, DepthOnly, Plane0, Plane1, Plane2}
 use Rattle.formats.specs.Aspects.{chosenAspects}
-use Rattle.refusals.specs.declared.TransferError.the-variants as E
 use Rattle.refusals.specs.declared.Checked.{Checked}
 use Rattle.refusals.specs.declared.Checked.the-variants as C
+use Rattle.refusals.specs.Order.{Checks, checked}
+use Rattle.refusals.proofs.Order.{all-pass as none-refuses, none-in, test-fails, test-off, checked-passes}
 use Rattle.records.specs.declared.Texture.{Texture}
 use Rattle.records.specs.declared.TexelCopyTextureInfo.{TexelCopyTextureInfo}
-use Rattle.selectors.specs.Selector.{overlaps, sameTextureChecked}
+use Rattle.selectors.specs.Selector.{overlaps, sameTextureChecks}
 use Rattle.webgpu.specs.Formats.{Aspect, Color, Depth, Stencil, Part, formats, Known, formatOf, named, dimensionOf}
 use Rattle.webgpu.specs.WebGpu.{Subresource, Among, InSet, LayerOf, Disjoint}
 use Rattle.webgpu.specs.Agreement.{bits, layersOf, MovesWithin, AllowsWithin, SameTexture, SameTextureParts}
@@ -105,28 +106,17 @@ common-by ps qs (Color, p, q) = rw (both-by ps qs Color p q)
 common-by ps qs (Depth, p, q) = or-right (both ps qs Color) _ (rw (both-by ps qs Depth p q))
 common-by ps qs (Stencil, p, q) = or-right (both ps qs Color) _ (or-right (both ps qs Depth) _ (both-by ps qs Stencil p q))
 
--- ---- the bits of what is named hold a flag exactly where its aspect is among them
+-- ---- the bits of what two views name meet exactly where an aspect is common
 
-record Holds (ps : List Part) : Type 0 where
-  color : holds (bits ps) 1 ≡ has ps Color
-  depth : holds (bits ps) 2 ≡ has ps Depth
-  stencil : holds (bits ps) 4 ≡ has ps Stencil
-  plane-0 : holds (bits ps) 8 ≡ false
-  plane-1 : holds (bits ps) 16 ≡ false
-  plane-2 : holds (bits ps) 32 ≡ false
+meeting : TextureAspect → TextureAspect → ℕ → Bool
+meeting a b f =
+    same (meets (bits (named (formatOf f) a)) (bits (named (formatOf f) b))) (common (named (formatOf f) a) (named (formatOf f) b))
 
-tests : List Part → List Bool
-tests ps =
-    same (holds (bits ps) 1) (has ps Color)
-    ∷ same (holds (bits ps) 2) (has ps Depth)
-    ∷ same (holds (bits ps) 4) (has ps Stencil)
-    ∷ same (holds (bits ps) 8) false
-    ∷ same (holds (bits ps) 16) false
-    ∷ same (holds (bits ps) 32) false
-    ∷ []
+tests : TextureAspect → ℕ → List Bool
+tests a f = meeting a All f ∷ meeting a StencilOnly f ∷ meeting a DepthOnly f ∷ meeting a Plane0 f ∷ meeting a Plane1 f ∷ meeting a Plane2 f ∷ []
 
-all-pass : (a : TextureAspect) → everyBelow (λ f. every (tests (named (formatOf f) a))) 21 ≡ true
-unfolding tests has is holds formats formatOf named
+all-pass : (a : TextureAspect) → everyBelow (λ f. every (tests a f)) 21 ≡ true
+unfolding tests meeting meets common both has is formats formatOf named
 all-pass All = refl
 all-pass StencilOnly = refl
 all-pass DepthOnly = refl
@@ -134,28 +124,20 @@ all-pass Plane0 = refl
 all-pass Plane1 = refl
 all-pass Plane2 = refl
 
-holds-of : (f : ℕ) (a : TextureAspect) → Known f → Holds (named (formatOf f) a)
-unfolding tests
-holds-of f a k =
-    let t = all-true (tests (named (formatOf f) a)) (at-below (λ f. every (tests (named (formatOf f) a))) 21 (all-pass a) f (below f k)) in
-    record {
-      color = same-is _ _ (t .0);
-      depth = same-is _ _ (t .1 .0);
-      stencil = same-is _ _ (t .1 .1 .0);
-      plane-0 = same-is _ _ (t .1 .1 .1 .0);
-      plane-1 = same-is _ _ (t .1 .1 .1 .1 .0);
-      plane-2 = same-is _ _ (t .1 .1 .1 .1 .1 .0);
-    }
+meets-is : (f : ℕ) (a b : TextureAspect) → Known f → meets (bits (named (formatOf f) a)) (bits (named (formatOf f) b)) ≡ common (named (formatOf f) a) (named (formatOf f) b)
+unfolding tests meeting
+meets-is f a b k = same-is _ _ (passed b)
+  where
+    all : AllTrue (tests a f)
+    all = all-true (tests a f) (at-below (λ f. every (tests a f)) 21 (all-pass a) f (below f k))
 
-or-no : (t : Bool) → (t || false) ≡ t
-or-no true = refl
-or-no false = refl
-
-meets-is : (ps qs : List Part) → Holds ps → Holds qs → meets (bits ps) (bits qs) ≡ common ps qs
-unfolding meets shared common both
-meets-is ps qs h k =
-    rw (h .color, h .depth, h .stencil, h .plane-0, h .plane-1, h .plane-2, k .color, k .depth, k .stencil)
-    (ap (λ (t : Bool). (has ps Color && has qs Color) || ((has ps Depth && has qs Depth) || t)) (or-no (has ps Stencil && has qs Stencil)))
+    passed : (b : TextureAspect) → meeting a b f ≡ true
+    passed All = all .0
+    passed StencilOnly = all .1 .0
+    passed DepthOnly = all .1 .1 .0
+    passed Plane0 = all .1 .1 .1 .0
+    passed Plane1 = all .1 .1 .1 .1 .0
+    passed Plane2 = all .1 .1 .1 .1 .1 .0
 
 -- ---- layers: 2D goes by them, and elsewhere two z are near only where they are one
 
@@ -218,7 +200,7 @@ module _ (t : Texture) (src dst : TexelCopyTextureInfo) (size : Extent3d) (k : K
   meets-named : meets (chosenAspects (t .format) (src .aspect)) (chosenAspects (t .format) (dst .aspect)) ≡ common from to
   meets-named =
       let r = row-of (t .format) k in
-      rw (r .chosen (src .aspect), r .chosen (dst .aspect)) (meets-is from to (holds-of (t .format) (src .aspect) k) (holds-of (t .format) (dst .aspect) k))
+      rw (r .chosen (src .aspect), r .chosen (dst .aspect)) (meets-is (t .format) (src .aspect) (dst .aspect) k)
 
   overlap-by : Overlap → overlaps src dst (t .format) n ≡ true
   unfolding overlaps
@@ -237,23 +219,22 @@ module _ (t : Texture) (src dst : TexelCopyTextureInfo) (size : Extent3d) (k : K
         level = eqb-true _ _ (all .1 .1 .1 .0);
       }
 
-  abbrev refusal : Checked
-  refusal = C.Refused (E.InvalidCopyWithinSameTexture (src .aspect) (dst .aspect) (src .origin .z) (dst .origin .z) n)
+  abbrev rule : Checks
+  rule = sameTextureChecks src dst (t .format) n
 
   -- the rule goes on exactly where nothing overlaps
   allows : (Overlap → ⊥) → AllowsWithin t src dst size
-  unfolding sameTextureChecked
+  unfolding sameTextureChecks
   allows apart = go (overlaps src dst (t .format) n) refl
     where
-      go : (o : Bool) → overlaps src dst (t .format) n ≡ o → stop-if (overlaps src dst (t .format) n) refusal C.GoOn ≡ C.GoOn
+      go : (o : Bool) → overlaps src dst (t .format) n ≡ o → checked rule ≡ C.GoOn
       go true e = absurd (apart (overlap-of e))
-      go false e = goes-past Checked (overlaps src dst (t .format) n) refusal C.GoOn e
+      go false e = none-refuses Checked C.Refused C.GoOn rule (test-off _ _ e, tt)
 
   allowed : AllowsWithin t src dst size → Overlap → ⊥
-  unfolding sameTextureChecked
+  unfolding sameTextureChecks
   allowed e o =
-      let g = went-past Checked (overlaps src dst (t .format) n) refusal C.GoOn C.GoOn e (λ r. let z : _≡_ {A = ℕ} 0 1 = cc in omega arith) in
-      let z : _≡_ {A = Bool} true false = sym (overlap-by o) ∙ g .0 in
+      let z : _≡_ {A = Bool} true false = sym (overlap-by o) ∙ test-fails _ _ (none-in rule (checked-passes rule e) 0) in
       let y : _≡_ {A = ℕ} 0 1 = cc in
       omega arith
 

@@ -15,7 +15,7 @@ use Rattle.records.specs.declared.TexelCopyTextureInfo.{TexelCopyTextureInfo}
 use Rattle.records.specs.Extents.{physicalExtent}
 use Rattle.ranges.specs.Range.{requiresExactSize, copyExtent, arrayLayerCount, rangeChecked}
 use Rattle.ranges.specs.Laws.{RangeLaws}
-use Rattle.ranges.proofs.Accepted.{every-range}
+use Rattle.ranges.proofs.Accepted.{range-goes, range-went}
 use Rattle.webgpu.specs.Formats.{Known, formatOf}
 use Rattle.webgpu.specs.WebGpu.{physicalSubresourceSize, CopiedWhole, Reading, WithLayers, OneLayer, IsWhole, TexelCopyTexture}
 use Rattle.webgpu.specs.Agreement.{GoesOn, SomeLayers, Ranges, RangesWithLayers}
@@ -116,8 +116,8 @@ pub ranges-by :
     (reading : Reading) (view : TexelCopyTextureInfo) (t : Texture) (side : CopySide) (size : Extent3d) → Known (t .format)
     → (Excepted reading t view size → ⊥) → GoesOn (rangeChecked view t side size) ↔ TexelCopyTexture reading t view size
 ranges-by reading view t side size k within = (
-  λ g. valid view t size k reading within (every-range view t side size .went-on (g .0) (g .1) (g .2) .0),
-  λ v. (copyExtent t size, arrayLayerCount t size, every-range view t side size .goes-on (laws view t size k reading v)),
+  λ g. valid view t size k reading within (range-went view t side size (g .0) (g .1) (g .2) .0),
+  λ v. (copyExtent t size, arrayLayerCount t size, range-goes view t side size (laws view t size k reading v)),
 )
 
 pub no-layers-left : (t : Texture) (view : TexelCopyTextureInfo) (size : Extent3d) → TexelCopyTexture WithLayers t view size → SomeLayers t view size → ⊥
@@ -129,7 +129,7 @@ ranges view t side size k = ranges-by OneLayer view t side size k (λ x. x)
 goes-with-layers :
     (view : TexelCopyTextureInfo) (t : Texture) (side : CopySide) (size : Extent3d) → Known (t .format)
     → TexelCopyTexture WithLayers t view size → GoesOn (rangeChecked view t side size)
-goes-with-layers view t side size k v = (copyExtent t size, arrayLayerCount t size, every-range view t side size .goes-on (laws view t size k WithLayers v))
+goes-with-layers view t side size k v = (copyExtent t size, arrayLayerCount t size, range-goes view t side size (laws view t size k WithLayers v))
 
 pub ranges-with-layers : RangesWithLayers
 ranges-with-layers view t side size k = (

@@ -32,10 +32,11 @@ use Rattle.formats.specs.Sheet.{blockWidth, blockHeight, aspectsOf, isFormat, i
 use Rattle.formats.specs.Aspects.{chosenAspects, blockCopySize}
 use Rattle.records.specs.Bounds.{mipSide}
 use Rattle.records.specs.Extents.{logicalExtent, physicalExtent}
+use Rattle.refusals.specs.Order.{checked}
 use Rattle.ranges.specs.Range.{rangeChecked}
-use Rattle.linear.specs.Linear.{linearData}
-use Rattle.format_rules.specs.Rules.{srcFormat, dstFormat, textureBufferCopy}
-use Rattle.selectors.specs.Selector.{sameTextureChecked}
+use Rattle.linear.specs.Linear.{linearChecked}
+use Rattle.format_rules.specs.Rules.{srcFormatChecks, dstFormatChecks, layoutChecks}
+use Rattle.selectors.specs.Selector.{sameTextureChecks}
 
 -- ---- the table of formats
 
@@ -133,8 +134,8 @@ module _ (layout : TexelCopyBufferLayout) (format : ℕ) (aspect : TextureAspect
 
   -- the rule goes on exactly where the standard's holds, and gives the standard's required bytes
   pub record LinearAgreement (side : CopySide) : Type 0 where
-    pub holds : (m : LinearData) → linearData layout format aspect bufferSize side size ≡ N.GoOn m → Standard × (m .«bytes_in_copy» ≡ requiredBytes)
-    pub goes-on : Standard → (m : LinearData) × (linearData layout format aspect bufferSize side size ≡ N.GoOn m)
+    pub holds : (m : LinearData) → linearChecked layout format aspect bufferSize side size ≡ N.GoOn m → Standard × (m .«bytes_in_copy» ≡ requiredBytes)
+    pub goes-on : Standard → (m : LinearData) × (linearChecked layout format aspect bufferSize side size ≡ N.GoOn m)
 
 abbrev pub LinearRules : Type 0
 LinearRules =
@@ -145,13 +146,13 @@ LinearRules =
 
 -- the format's rule: `reads` where the texture is the source
 abbrev pub formatRule : Bool → ℕ → TextureAspect → Checked
-formatRule true format aspect = srcFormat format aspect
-formatRule false format aspect = dstFormat format aspect
+formatRule true format aspect = checked (srcFormatChecks format aspect)
+formatRule false format aspect = checked (dstFormatChecks format aspect)
 
 abbrev pub BufferCopies : Type 0
 BufferCopies =
     (reads aligned : Bool) (t : Texture) (aspect : TextureAspect) (layout : TexelCopyBufferLayout) → InStandard (t .format) aspect
-    → ((formatRule reads (t .format) aspect ≡ C.GoOn) × (textureBufferCopy aspect (bits (named (formatOf (t .format)) aspect)) t layout aligned ≡ C.GoOn))
+    → ((formatRule reads (t .format) aspect ≡ C.GoOn) × (checked (layoutChecks aspect (bits (named (formatOf (t .format)) aspect)) t layout aligned) ≡ C.GoOn))
     ↔ W.TextureBufferCopy reads aligned t aspect layout
 
 -- ---- copies within one texture
@@ -171,7 +172,7 @@ pub record MovesWithin (t : Texture) (src dst : TexelCopyTextureInfo) : Type 0 w
 
 module _ (t : Texture) (src dst : TexelCopyTextureInfo) (size : Extent3d) where
   abbrev pub AllowsWithin : Type 0
-  AllowsWithin = sameTextureChecked src dst (t .format) (layersOf (dimensionOf (t .dimension)) (size .«depth_or_array_layers»)) ≡ C.GoOn
+  AllowsWithin = checked (sameTextureChecks src dst (t .format) (layersOf (dimensionOf (t .dimension)) (size .«depth_or_array_layers»))) ≡ C.GoOn
 
 -- the rule goes on exactly where the standard's sets are disjoint, and there
 abbrev pub SameTexture : Type 0

@@ -22,11 +22,12 @@ use Rattle.records.specs.declared.Device.{Device}
 use Rattle.records.specs.declared.Texture.{Texture}
 use Rattle.records.specs.Bounds as records
 use Rattle.records.specs.Bounds.{bufferInBounds, textureInBounds}
+use Rattle.buffer_texture.specs.Copy.{Direction, Upload, Download, Copy}
 use Rattle.webgpu.specs.Formats.{Color, formats, Known, formatOf, anyDepthOrStencil, isDepthOrStencil, named, dimensionOf, srgbPairs, paired, copyCompatible}
 use Rattle.webgpu.specs.WebGpu.{Has, logicalSize, toBlock, physicalSubresourceSize, CopiedWhole, Reading, WithLayers, OneLayer, IsWhole, TexelCopyTexture, requiredBytesInCopy, taken, validOne, blockBytes, LinearBox, Disjoint}
 use Rattle.webgpu.specs.Agreement.{MovesWithin, SomeLayers}
 use Rattle.webgpu_copies.specs.Bounds.{BufferInBounds, TextureInBounds}
-use Rattle.webgpu_copies.specs.WholeCopies.{Copy, planned, GivesPlan, StandardCopy, Compared, CopyExcepted, Rules, OutOfBounds}
+use Rattle.webgpu_copies.specs.WholeCopies.{planned, reads, GivesPlan, StandardCopy, Compared, CopyExcepted, Rules, OutOfBounds}
 use Rattle.webgpu_copies.specs.Examples.{device, buffer, extent, texture, viewAt, StandardBuffers, texel, tooWide, tooLarge, depthless, colorDepth, oneLayer, noLayer, starred, OnlyStandard, OnlyWithoutLayers, side, OntoZ1, StandardOntoZ1, OnlyPlanned, Examples}
 use Rattle.webgpu_copies.proofs.Lines.{opposite}
 use Rattle.webgpu_copies.proofs.Records.{record-bounds}
@@ -77,69 +78,69 @@ one-texel OneLayer = (refl, refl)
 absent : {n : ℕ} {C : Type 0} → Absent ≡ Given n → C
 absent e = let z : _≡_ {A = ℕ} 0 1 = cc in absurd (omega arith)
 
-both-usages : (reads : Bool) → Has 12 (cond reads 8 4) × Has 3 (cond reads 1 2)
-both-usages true = (refl, refl)
-both-usages false = (refl, refl)
+both-usages : (way : Direction) → Has 12 (cond (reads way) 8 4) × Has 3 (cond (reads way) 1 2)
+both-usages Upload = (refl, refl)
+both-usages Download = (refl, refl)
 
 texel-holds :
-    (reading : Reading) (reads : Bool) (d : Device) (bytes format : ℕ) (size : Extent3d) (z : ℕ) (aspect : TextureAspect) (copied : Extent3d)
-    → TexelCopyTexture reading (texture format 2 size) (viewAt z aspect) copied → validOne reads (taken format aspect) ≡ true
-    → LinearBox (texture format 2 size) aspect (texel d bytes format size z aspect copied .layout) copied bytes
-    → StandardCopy reading reads (texel d bytes format size z aspect copied)
-texel-holds reading reads d bytes format size z aspect copied v a l =
+    (reading : Reading) (way : Direction) (d : Device) (bytes format : ℕ) (size : Extent3d) (z : ℕ) (aspect : TextureAspect) (copied : Extent3d)
+    → TexelCopyTexture reading (texture format 2 size) (viewAt z aspect) copied → validOne (reads way) (taken format aspect) ≡ true
+    → LinearBox (texture format 2 size) aspect (texel way d bytes format size z aspect copied .layout) copied bytes
+    → StandardCopy reading (texel way d bytes format size z aspect copied)
+texel-holds reading way d bytes format size z aspect copied v a l =
     record {
-      buffer-usage = both-usages reads .0;
-      texture-usage = both-usages reads .1;
+      buffer-usage = both-usages way .0;
+      texture-usage = both-usages way .1;
       view-valid = v;
       suits = record { one-sample = refl; allowed = a; layout-aligned = λ e. record { depth-stencil = λ e. refl; other = λ e. zero-mod (blockBytes format aspect); row = λ n e. absent e } };
       linear = l;
     }
 
 -- one row of one image needs no strides
-one-row : (bytes format : ℕ) (size : Extent3d) (aspect : TextureAspect) (d : Device) (z : ℕ) (copied : Extent3d) → copied .height ≡ 1 → copied .«depth_or_array_layers» ≤ 1 → formatOf format .blockHeight ≡ 1
-    → 0 + requiredBytesInCopy (texel d bytes format size z aspect copied .layout) (copied .width / formatOf format .blockWidth) (copied .height / formatOf format .blockHeight) (blockBytes format aspect) (copied .«depth_or_array_layers») ≤ bytes
-    → LinearBox (texture format 2 size) aspect (texel d bytes format size z aspect copied .layout) copied bytes
-one-row bytes format size aspect d z copied h k e fits =
+one-row : (way : Direction) (bytes format : ℕ) (size : Extent3d) (aspect : TextureAspect) (d : Device) (z : ℕ) (copied : Extent3d) → copied .height ≡ 1 → copied .«depth_or_array_layers» ≤ 1 → formatOf format .blockHeight ≡ 1
+    → 0 + requiredBytesInCopy (texel way d bytes format size z aspect copied .layout) (copied .width / formatOf format .blockWidth) (copied .height / formatOf format .blockHeight) (blockBytes format aspect) (copied .«depth_or_array_layers») ≤ bytes
+    → LinearBox (texture format 2 size) aspect (texel way d bytes format size z aspect copied .layout) copied bytes
+one-row way bytes format size aspect d z copied h k e fits =
     let one : copied .height / formatOf format .blockHeight ≡ 1 = rw (h, e) in
     record { rows-given = λ m. absurd (omega (arith, one)); images-given = λ m. absurd (omega arith); row-fits = tt; image-fits = tt; inside = fits }
 
-allowed : (reads : Bool) → (validOne reads (taken 0 All) ≡ true) × (validOne reads (taken 16 All) ≡ true) × (validOne reads (taken 0 DepthOnly) ≡ true) × (validOne reads (taken 15 All) ≡ true)
+allowed : (way : Direction) → (validOne (reads way) (taken 0 All) ≡ true) × (validOne (reads way) (taken 16 All) ≡ true) × (validOne (reads way) (taken 0 DepthOnly) ≡ true) × (validOne (reads way) (taken 15 All) ≡ true)
 unfolding formats formatOf anyDepthOrStencil isDepthOrStencil named taken
-allowed true = (refl, refl, refl, refl)
-allowed false = (refl, refl, refl, refl)
+allowed Upload = (refl, refl, refl, refl)
+allowed Download = (refl, refl, refl, refl)
 
-module _ (reading : Reading) (reads : Bool) where
-  wide-holds : StandardCopy reading reads tooWide
+module _ (reading : Reading) (way : Direction) where
+  wide-holds : StandardCopy reading (tooWide way)
   unfolding formats formatOf anyDepthOrStencil isDepthOrStencil named dimensionOf logicalSize toBlock physicalSubresourceSize taken blockBytes requiredBytesInCopy
   wide-holds =
-      texel-holds reading reads (device true true) 1 0 (extent 8193 1 1) 0 All (extent 1 1 1)
+      texel-holds reading way (device true true) 1 0 (extent 8193 1 1) 0 All (extent 1 1 1)
       (first-level reading 0 2 0 (extent 8193 1 1) (extent 1 1 1) All refl refl (not-whole (extent 8193 1 1)) (omega arith) (omega arith) (omega arith))
-      (allowed reads .0) (one-row 1 0 (extent 8193 1 1) All (device true true) 0 (extent 1 1 1) refl (omega arith) refl (omega arith))
+      (allowed way .0) (one-row way 1 0 (extent 8193 1 1) All (device true true) 0 (extent 1 1 1) refl (omega arith) refl (omega arith))
 
-  large-holds : StandardCopy reading reads tooLarge
+  large-holds : StandardCopy reading (tooLarge way)
   unfolding formats formatOf anyDepthOrStencil isDepthOrStencil named dimensionOf logicalSize toBlock physicalSubresourceSize taken blockBytes requiredBytesInCopy
   large-holds =
-      texel-holds reading reads (device true true) 268435457 0 (extent 1 1 1) 0 All (extent 1 1 1)
+      texel-holds reading way (device true true) 268435457 0 (extent 1 1 1) 0 All (extent 1 1 1)
       (first-level reading 0 2 0 (extent 1 1 1) (extent 1 1 1) All refl refl (not-whole (extent 1 1 1)) (omega arith) (omega arith) (omega arith))
-      (allowed reads .0) (one-row 268435457 0 (extent 1 1 1) All (device true true) 0 (extent 1 1 1) refl (omega arith) refl (omega arith))
+      (allowed way .0) (one-row way 268435457 0 (extent 1 1 1) All (device true true) 0 (extent 1 1 1) refl (omega arith) refl (omega arith))
 
-  depth-holds : StandardCopy reading reads depthless
+  depth-holds : StandardCopy reading (depthless way)
   unfolding formats formatOf anyDepthOrStencil isDepthOrStencil named dimensionOf logicalSize toBlock physicalSubresourceSize taken blockBytes requiredBytesInCopy
   depth-holds =
-      texel-holds reading reads (device false true) 2 16 (extent 1 1 1) 0 All (extent 1 1 1)
+      texel-holds reading way (device false true) 2 16 (extent 1 1 1) 0 All (extent 1 1 1)
       (first-level reading 16 2 0 (extent 1 1 1) (extent 1 1 1) All refl refl (λ w. one-texel reading) (omega arith) (omega arith) (omega arith))
-      (allowed reads .1) (one-row 2 16 (extent 1 1 1) All (device false true) 0 (extent 1 1 1) refl (omega arith) refl (omega arith))
+      (allowed way .1) (one-row way 2 16 (extent 1 1 1) All (device false true) 0 (extent 1 1 1) refl (omega arith) refl (omega arith))
 
-  color-holds : StandardCopy reading reads colorDepth
+  color-holds : StandardCopy reading (colorDepth way)
   unfolding formats formatOf anyDepthOrStencil isDepthOrStencil named dimensionOf logicalSize toBlock physicalSubresourceSize taken blockBytes requiredBytesInCopy
   color-holds =
-      texel-holds reading reads (device true true) 1 0 (extent 1 1 1) 0 DepthOnly (extent 1 1 1)
+      texel-holds reading way (device true true) 1 0 (extent 1 1 1) 0 DepthOnly (extent 1 1 1)
       (first-level reading 0 2 0 (extent 1 1 1) (extent 1 1 1) DepthOnly refl refl (not-whole (extent 1 1 1)) (omega arith) (omega arith) (omega arith))
-      (allowed reads .2) (one-row 1 0 (extent 1 1 1) DepthOnly (device true true) 0 (extent 1 1 1) refl (omega arith) refl (omega arith))
+      (allowed way .2) (one-row way 1 0 (extent 1 1 1) DepthOnly (device true true) 0 (extent 1 1 1) refl (omega arith) refl (omega arith))
 
 -- the planner's refusal, by what is excepted
-refused-by : (c : Copy) → Compared c → CopyExcepted c → (reads : Bool) → GivesPlan (planned reads c) → ⊥
-refused-by c r x reads g = copies-agree reads c r .0 g .1 x
+refused-by : (c : Copy) → Compared c → CopyExcepted c → GivesPlan (planned c) → ⊥
+refused-by c r x g = copies-agree c r .0 g .1 x
 
 compared : (c : Copy) → c .texture .format < 21 → c .layout .«bytes_per_row» ≡ Absent → c .layout .«rows_per_image» ≡ Absent → Compared c
 unfolding formats
@@ -149,35 +150,35 @@ too-wide : (layers : ℕ) → TextureInBounds (texture 0 2 (extent 8193 1 layers
 unfolding dimensionOf
 too-wide layers b = omega (arith, b .size .0 .1)
 
-color-excepted : CopyExcepted colorDepth
+color-excepted : (way : Direction) → CopyExcepted (colorDepth way)
 unfolding formats formatOf anyDepthOrStencil isDepthOrStencil
-color-excepted = inr (inr (inr (refl, λ e. let z : _≡_ {A = ℕ} 0 1 = cc in omega arith)))
+color-excepted way = inr (inr (inr (refl, λ e. let z : _≡_ {A = ℕ} 0 1 = cc in omega arith)))
 
-depth-excepted : CopyExcepted depthless
+depth-excepted : (way : Direction) → CopyExcepted (depthless way)
 unfolding formats formatOf anyDepthOrStencil isDepthOrStencil
-depth-excepted = inr (inr (inl (refl, refl)))
+depth-excepted way = inr (inr (inl (refl, refl)))
 
 -- ---- some layers
 
-module _ (reads : Bool) where
-  layer-holds : StandardCopy OneLayer reads oneLayer
+module _ (way : Direction) where
+  layer-holds : StandardCopy OneLayer (oneLayer way)
   unfolding formats formatOf anyDepthOrStencil isDepthOrStencil named dimensionOf logicalSize toBlock physicalSubresourceSize taken blockBytes requiredBytesInCopy
   layer-holds =
-      texel-holds OneLayer reads (device true true) 1 15 (extent 1 1 2) 1 All (extent 1 1 1)
+      texel-holds OneLayer way (device true true) 1 15 (extent 1 1 2) 1 All (extent 1 1 1)
       (first-level OneLayer 15 2 1 (extent 1 1 2) (extent 1 1 1) All refl refl (λ w. (refl, refl)) (omega arith) (omega arith) (omega arith))
-      (allowed reads .3) (one-row 1 15 (extent 1 1 2) All (device true true) 1 (extent 1 1 1) refl (omega arith) refl (omega arith))
+      (allowed way .3) (one-row way 1 15 (extent 1 1 2) All (device true true) 1 (extent 1 1 1) refl (omega arith) refl (omega arith))
 
-  none-holds : StandardCopy OneLayer reads noLayer
+  none-holds : StandardCopy OneLayer (noLayer way)
   unfolding formats formatOf anyDepthOrStencil isDepthOrStencil named dimensionOf logicalSize toBlock physicalSubresourceSize taken blockBytes requiredBytesInCopy
   none-holds =
-      texel-holds OneLayer reads (device true true) 0 15 (extent 1 1 2) 0 All (extent 1 1 0)
+      texel-holds OneLayer way (device true true) 0 15 (extent 1 1 2) 0 All (extent 1 1 0)
       (first-level OneLayer 15 2 0 (extent 1 1 2) (extent 1 1 0) All refl refl (λ w. (refl, refl)) (omega arith) (omega arith) (omega arith))
-      (allowed reads .3) (one-row 0 15 (extent 1 1 2) All (device true true) 0 (extent 1 1 0) refl (omega arith) refl (omega arith))
+      (allowed way .3) (one-row way 0 15 (extent 1 1 2) All (device true true) 0 (extent 1 1 0) refl (omega arith) refl (omega arith))
 
 whole-rows : (n : ℕ) → Given 256 ≡ Given n → n % 256 ≡ 0
 whole-rows n e = let h : 256 ≡ n = cc in rw (← h)
 
-starred-holds : StandardCopy OneLayer true starred
+starred-holds : StandardCopy OneLayer (starred Download)
 unfolding formats formatOf anyDepthOrStencil isDepthOrStencil named dimensionOf logicalSize toBlock physicalSubresourceSize taken blockBytes requiredBytesInCopy
 starred-holds =
     record {
@@ -196,13 +197,13 @@ kept c b t d a (inr (inr (inl r))) = opposite true refl (sym (ap (λ (x : Device
 kept c b t d a (inr (inr (inr r))) = r .1 a
 
 only-without :
-    (reads : Bool) (c : Copy) → Compared c → (CopyExcepted c → ⊥) → StandardCopy OneLayer reads c → SomeLayers (c .texture) (c .view) (c .size) → OnlyWithoutLayers reads c
-only-without reads c r x v some =
-    record { plans = copies-agree reads c r .1 (v, x); accepted = v; refused = λ w. copies-agree-with-layers reads c r .1 (w, x) .1 some }
+    (c : Copy) → Compared c → (CopyExcepted c → ⊥) → StandardCopy OneLayer c → SomeLayers (c .texture) (c .view) (c .size) → OnlyWithoutLayers c
+only-without c r x v some =
+    record { plans = copies-agree c r .1 (v, x); accepted = v; refused = λ w. copies-agree-with-layers c r .1 (w, x) .1 some }
 
-some-layers : SomeLayers (oneLayer .texture) (oneLayer .view) (oneLayer .size) × SomeLayers (noLayer .texture) (noLayer .view) (noLayer .size) × SomeLayers (starred .texture) (starred .view) (starred .size)
+some-layers : (way : Direction) → SomeLayers (oneLayer way .texture) (oneLayer way .view) (oneLayer way .size) × SomeLayers (noLayer way .texture) (noLayer way .view) (noLayer way .size) × SomeLayers (starred way .texture) (starred way .view) (starred way .size)
 unfolding formats formatOf anyDepthOrStencil isDepthOrStencil dimensionOf logicalSize toBlock physicalSubresourceSize
-some-layers = ((inl refl, λ e. omega arith), (inl refl, λ e. omega arith), (inl refl, λ e. omega arith))
+some-layers way = ((inl refl, λ e. omega arith), (inl refl, λ e. omega arith), (inl refl, λ e. omega arith))
 
 -- ---- the records of the examples that are accepted
 
@@ -292,18 +293,18 @@ examples =
     record {
       large = (large, λ g. buffer-to-buffer (device true true) 0 1 (buffer 268435457 4) (buffer 4 8) 0 0 (L.Given 4) .0 g .1 (inl (too-large 4)));
       index = (indexed, λ g. buffer-to-buffer (device true false) 0 1 (buffer 4 20) (buffer 4 40) 0 0 (L.Given 4) .0 g .1 (inr (inr (record { fact = refl; index = inl refl; shared = inr (inl refl) }))));
-      wide-texture = record { accepted = wide-holds; refused = refused-by tooWide (compared tooWide (below .0) refl refl) (inr (inl (too-wide 1))) };
-      large-buffer = record { accepted = large-holds; refused = refused-by tooLarge (compared tooLarge (below .0) refl refl) (inl (too-large 12)) };
-      depth = record { accepted = depth-holds; refused = refused-by depthless (compared depthless (below .2) refl refl) depth-excepted };
-      color = record { accepted = color-holds; refused = refused-by colorDepth (compared colorDepth (below .0) refl refl) color-excepted };
+      wide-texture = record { accepted = wide-holds; refused = λ way. refused-by (tooWide way) (compared (tooWide way) (below .0) refl refl) (inr (inl (too-wide 1))) };
+      large-buffer = record { accepted = large-holds; refused = λ way. refused-by (tooLarge way) (compared (tooLarge way) (below .0) refl refl) (inl (too-large 12)) };
+      depth = record { accepted = depth-holds; refused = λ way. refused-by (depthless way) (compared (depthless way) (below .2) refl refl) (depth-excepted way) };
+      color = record { accepted = color-holds; refused = λ way. refused-by (colorDepth way) (compared (colorDepth way) (below .0) refl refl) (color-excepted way) };
       wide-textures = (λ reading. record { rules = wide-rules reading; disjoint = two }, λ g. textures-agree 0 1 _ _ _ (below .0) (below .0) .0 g .2 (inl (too-wide 2)));
-      layer = λ reads. only-without reads oneLayer (compared oneLayer layered refl refl) (kept oneLayer (bounded .one) stencil refl refl) (layer-holds reads) (some-layers .0);
-      layers = λ reads. only-without reads noLayer (compared noLayer layered refl refl) (kept noLayer (bounded .none) stencil refl refl) (none-holds reads) (some-layers .1);
-      starred-layer = only-without true starred (record { known = below .3; bytes-field = omega arith; rows-field = tt }) (kept starred (bounded .many) (bounded .depth) refl refl) starred-holds (some-layers .2);
+      layer = λ way. only-without (oneLayer way) (compared (oneLayer way) layered refl refl) (kept (oneLayer way) (bounded .one) stencil refl refl) (layer-holds way) (some-layers way .0);
+      layers = λ way. only-without (noLayer way) (compared (noLayer way) layered refl refl) (kept (noLayer way) (bounded .none) stencil refl refl) (none-holds way) (some-layers way .1);
+      starred-layer = only-without (starred Download) (record { known = below .3; bytes-field = omega arith; rows-field = tt }) (kept (starred Download) (bounded .many) (bounded .depth) refl refl) starred-holds (some-layers Download .2);
       texture-layers = (
         textures-agree 0 1 _ _ _ layered layered .1 (layer-rules, two, in-both (texture 15 2 (extent 1 1 2)) stencil),
         record { rules = layer-rules; disjoint = two },
-        λ v. textures-agree-with-layers 0 1 _ _ _ layered layered .1 (v .rules, two, in-both (texture 15 2 (extent 1 1 2)) stencil) .1 (inl (some-layers .0)),
+        λ v. textures-agree-with-layers 0 1 _ _ _ layered layered .1 (v .rules, two, in-both (texture 15 2 (extent 1 1 2)) stencil) .1 (inl (some-layers Download .0)),
       );
       volume = only-planned (texture 0 3 (extent 1 1 2)) (extent 1 1 1) refl (bounded .volume) (not-layered .0) volume-rules;
       starred-volume = only-planned (texture 0 3 (extent 4 4 4)) (extent 4 4 2) refl (bounded .larger) (not-layered .0) starred-rules;

@@ -26,7 +26,8 @@ use Rattle.webgpu.specs.WebGpu.{Reading, TexelCopyTexture, blockBytes}
 use Rattle.webgpu.specs.Agreement.{InStandard, Figures}
 use Rattle.webgpu.proofs.Rows.{bytes-are}
 use Rattle.webgpu.proofs.Sizes.{physical-extents}
-use Rattle.webgpu_copies.specs.WholeCopies.{Copy, Compared}
+use Rattle.buffer_texture.specs.Copy.{Copy}
+use Rattle.webgpu_copies.specs.WholeCopies.{Compared}
 
 few-bytes : (format : ℕ) (aspect : TextureAspect) → linear.blockBytes format aspect ≤ maxBlockBytes
 unfolding linear.blockBytes orElse

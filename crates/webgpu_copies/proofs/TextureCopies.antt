@@ -11,7 +11,7 @@ use Rattle.checks.specs.Checks.{stop-if}
 use Rattle.checks.proofs.Rules.{not-yes, not-no, both-true}
 use Rattle.checks.proofs.Tables.{everyBelow, at-below}
 use Rattle.measures.specs.declared.Extent3d.{Extent3d}
-use Rattle.flags.specs.Flags.{holds}
+use Rattle.flags.specs.Flags.{contains}
 use Rattle.levels.specs.declared.TextureDimension.{TextureDimension}
 use Rattle.levels.specs.declared.TextureDimension.the-variants.{D1, D2, D3}
 use Rattle.levels.specs.Level as levels
@@ -34,7 +34,7 @@ use Rattle.ranges.proofs.Accepted.{every-range}
 use Rattle.selectors.specs.declared.TextureCopyBase.{TextureCopyBase}
 use Rattle.selectors.specs.Selector.{baseOf, selectorChecked, sameTextureChecked}
 use Rattle.copies.specs.Copies.{after-range, after-selector}
-use Rattle.texture_plans.specs.declared.TextureSide.{TextureSide}
+use Rattle.records.specs.declared.TextureSide.{TextureSide}
 use Rattle.texture_copies.specs.declared.TexturePlanned.{TexturePlanned}
 use Rattle.texture_copies.specs.declared.TexturePlanned.the-variants as X
 use Rattle.texture_plans.specs.Plan.{planOf}
@@ -251,8 +251,8 @@ module _ (i j : ℕ) (src dst : TextureSide) (size : Extent3d) (k : Known (src .
       let a = past (not (eqb (chosenFor src) (aspectsOf (src .texture .format)))) E.CopySrcMissingAspects _ (y .1) in
       let b = past (not (eqb (chosenFor dst) (aspectsOf (dst .texture .format)))) E.CopyDstMissingAspects _ (a .1) in
       let n = past (not (eqb (src .texture .«sample_count») (dst .texture .«sample_count»))) sampled _ (b .1) in
-      let u = past (not (holds (src .texture .usage .0) 1)) (E.MissingTextureUsage Source) _ (n .1) in
-      let w = past (not (holds (dst .texture .usage .0) 2)) (E.MissingTextureUsage Destination) _ (u .1) in
+      let u = past (not (contains (src .texture .usage .0) 1)) (E.MissingTextureUsage Source) _ (n .1) in
+      let w = past (not (contains (dst .texture .usage .0) 2)) (E.MissingTextureUsage Destination) _ (u .1) in
       let count = every-range (src .view) (src .texture) Source size .went-on (from .0) (from .1) (from .2) .2 in
       let b′ = bounds-of i j src dst size g in
       record {
@@ -265,8 +265,8 @@ module _ (i j : ℕ) (src dst : TextureSide) (size : Extent3d) (k : Known (src .
         src-aspects = eqb-true _ _ (not-false _ (a .0));
         dst-aspects = eqb-true _ _ (not-false _ (b .0));
         samples = eqb-true _ _ (not-false _ (n .0));
-        src-usage = flag-of (src .texture .usage .0) 1 (u .0);
-        dst-usage = flag-of (dst .texture .usage .0) 2 (w .0);
+        src-usage = flag-of (src .texture .usage .0) 0 (u .0);
+        dst-usage = flag-of (dst .texture .usage .0) 1 (w .0);
       }
 
   plan : Passes src dst size k l (eqb i j) → GivesTexturePlan (textureToTexture i src j dst size)
@@ -287,8 +287,8 @@ module _ (i j : ℕ) (src dst : TextureSide) (size : Extent3d) (k : Known (src .
       (by (not (eqb (chosenFor src) (aspectsOf (src .texture .format)))) E.CopySrcMissingAspects _ (not-no _ (eq-eqb _ _ (p .src-aspects)))
       (by (not (eqb (chosenFor dst) (aspectsOf (dst .texture .format)))) E.CopyDstMissingAspects _ (not-no _ (eq-eqb _ _ (p .dst-aspects)))
       (by (not (eqb (src .texture .«sample_count») (dst .texture .«sample_count»))) sampled _ (not-no _ (eq-eqb _ _ (p .samples)))
-      (by (not (holds (src .texture .usage .0) 1)) (E.MissingTextureUsage Source) _ (flag-by (src .texture .usage .0) 1 (p .src-usage))
-      (by (not (holds (dst .texture .usage .0) 2)) (E.MissingTextureUsage Destination) _ (flag-by (dst .texture .usage .0) 2 (p .dst-usage))
+      (by (not (contains (src .texture .usage .0) 1)) (E.MissingTextureUsage Source) _ (flag-by (src .texture .usage .0) 0 (p .src-usage))
+      (by (not (contains (dst .texture .usage .0) 2)) (E.MissingTextureUsage Destination) _ (flag-by (dst .texture .usage .0) 1 (p .dst-usage))
       (planOf src dst size (p .from .0) (p .to .0) n (baseFor src) (baseFor dst), refl)))))))))))))))
 
 -- ---- the claims

@@ -11,9 +11,10 @@ use Rattle.records.specs.declared.Buffer.{Buffer}
 use Rattle.records.specs.declared.Device.{Device}
 use Rattle.records.specs.declared.Texture.{Texture}
 use Rattle.records.specs.declared.TexelCopyTextureInfo.{TexelCopyTextureInfo}
-use Rattle.texture_plans.specs.declared.TextureSide.{TextureSide}
+use Rattle.buffer_texture.specs.Copy.{Direction, Download, Copy}
+use Rattle.records.specs.declared.TextureSide.{TextureSide}
 use Rattle.webgpu.specs.WebGpu as W
-use Rattle.webgpu_copies.specs.WholeCopies.{GivesBufferPlan, Copy, planned, GivesPlan, StandardCopy, PlansTextures, StandardTextures}
+use Rattle.webgpu_copies.specs.WholeCopies.{GivesBufferPlan, planned, GivesPlan, StandardCopy, PlansTextures, StandardTextures}
 -- what is judged
 use Rattle.buffer_copies.specs.BufferCopies.{bufferToBuffer}
 
@@ -46,49 +47,49 @@ StandardBuffers src dst = W.CopyBufferToBuffer false src dst 0 0 4
 
 -- ---- between the start of a buffer and a texture, either way
 
-abbrev pub copy : Device → Buffer → OptionU32 → Texture → TexelCopyTextureInfo → Extent3d → Copy
-copy d b row t view size =
-    record { device = d; buffer = b; layout = record { offset = 0; «bytes_per_row» = row; «rows_per_image» = Absent }; texture = t; view = view; size = size }
+abbrev pub copy : Direction → Device → Buffer → OptionU32 → Texture → TexelCopyTextureInfo → Extent3d → Copy
+copy way d b row t view size =
+    record { direction = way; device = d; buffer = b; layout = record { offset = 0; «bytes_per_row» = row; «rows_per_image» = Absent }; texture = t; view = view; size = size }
 
 -- one texel, or what is said, of a 2D texture, into or from a buffer of usage 12
-abbrev pub texel : Device → ℕ → ℕ → Extent3d → ℕ → TextureAspect → Extent3d → Copy
-texel d bytes format size z aspect copied = copy d (buffer bytes 12) Absent (texture format 2 size) (viewAt z aspect) copied
+abbrev pub texel : Direction → Device → ℕ → ℕ → Extent3d → ℕ → TextureAspect → Extent3d → Copy
+texel way d bytes format size z aspect copied = copy way d (buffer bytes 12) Absent (texture format 2 size) (viewAt z aspect) copied
 
 -- a texture that is wider than 8,192, and a buffer of more than 268,435,456 bytes
-abbrev pub tooWide : Copy
-tooWide = texel (device true true) 1 0 (extent 8193 1 1) 0 All (extent 1 1 1)
+abbrev pub tooWide : Direction → Copy
+tooWide way = texel way (device true true) 1 0 (extent 8193 1 1) 0 All (extent 1 1 1)
 
-abbrev pub tooLarge : Copy
-tooLarge = texel (device true true) 268435457 0 (extent 1 1 1) 0 All (extent 1 1 1)
+abbrev pub tooLarge : Direction → Copy
+tooLarge way = texel way (device true true) 268435457 0 (extent 1 1 1) 0 All (extent 1 1 1)
 
 -- depth16unorm, without the depth fact; the depth of r8unorm
-abbrev pub depthless : Copy
-depthless = texel (device false true) 2 16 (extent 1 1 1) 0 All (extent 1 1 1)
+abbrev pub depthless : Direction → Copy
+depthless way = texel way (device false true) 2 16 (extent 1 1 1) 0 All (extent 1 1 1)
 
-abbrev pub colorDepth : Copy
-colorDepth = texel (device true true) 1 0 (extent 1 1 1) 0 DepthOnly (extent 1 1 1)
+abbrev pub colorDepth : Direction → Copy
+colorDepth way = texel way (device true true) 1 0 (extent 1 1 1) 0 DepthOnly (extent 1 1 1)
 
 -- one layer of two of stencil8, and none of them
-abbrev pub oneLayer : Copy
-oneLayer = texel (device true true) 1 15 (extent 1 1 2) 1 All (extent 1 1 1)
+abbrev pub oneLayer : Direction → Copy
+oneLayer way = texel way (device true true) 1 15 (extent 1 1 2) 1 All (extent 1 1 1)
 
-abbrev pub noLayer : Copy
-noLayer = texel (device true true) 0 15 (extent 1 1 2) 0 All (extent 1 1 0)
+abbrev pub noLayer : Direction → Copy
+noLayer way = texel way (device true true) 0 15 (extent 1 1 2) 0 All (extent 1 1 0)
 
 -- document 01's starred point, into a buffer: depth32float 8×8, layer 1 of 2, 256 bytes per row
-abbrev pub starred : Copy
-starred = copy (device true true) (buffer 4096 12) (Given 256) (texture 19 2 (extent 8 8 2)) (viewAt 1 All) (extent 8 8 1)
+abbrev pub starred : Direction → Copy
+starred way = copy way (device true true) (buffer 4096 12) (Given 256) (texture 19 2 (extent 8 8 2)) (viewAt 1 All) (extent 8 8 1)
 
 -- the standard accepts, either way and however it is read, and the planner refuses
-pub record OnlyStandard (c : Copy) : Type 0 where
-  pub accepted : (reading : W.Reading) (reads : Bool) → StandardCopy reading reads c
-  pub refused : (reads : Bool) → GivesPlan (planned reads c) → ⊥
+pub record OnlyStandard (c : Direction → Copy) : Type 0 where
+  pub accepted : (reading : W.Reading) (way : Direction) → StandardCopy reading (c way)
+  pub refused : (way : Direction) → GivesPlan (planned (c way)) → ⊥
 
 -- the planner accepts, and so does the standard where it is read without layers; with them it refuses
-pub record OnlyWithoutLayers (reads : Bool) (c : Copy) : Type 0 where
-  pub plans : GivesPlan (planned reads c)
-  pub accepted : StandardCopy W.OneLayer reads c
-  pub refused : StandardCopy W.WithLayers reads c → ⊥
+pub record OnlyWithoutLayers (c : Copy) : Type 0 where
+  pub plans : GivesPlan (planned c)
+  pub accepted : StandardCopy W.OneLayer c
+  pub refused : StandardCopy W.WithLayers c → ⊥
 
 -- ---- between textures, from z 0 to z 1
 
@@ -117,9 +118,9 @@ pub record Examples : Type 0 where
   pub color : OnlyStandard colorDepth
   pub wide-textures : ((reading : W.Reading) → StandardOntoZ1 1 (texture 0 2 (extent 8193 1 2)) (extent 1 1 1) reading) × (OntoZ1 1 (texture 0 2 (extent 8193 1 2)) (extent 1 1 1) → ⊥)
   -- the standard refuses, read with layers
-  pub layer : (reads : Bool) → OnlyWithoutLayers reads oneLayer
-  pub layers : (reads : Bool) → OnlyWithoutLayers reads noLayer
-  pub starred-layer : OnlyWithoutLayers true starred
+  pub layer : (way : Direction) → OnlyWithoutLayers (oneLayer way)
+  pub layers : (way : Direction) → OnlyWithoutLayers (noLayer way)
+  pub starred-layer : OnlyWithoutLayers (starred Download)
   pub texture-layers : OntoZ1 1 (texture 15 2 (extent 1 1 2)) (extent 1 1 1) × StandardOntoZ1 1 (texture 15 2 (extent 1 1 2)) (extent 1 1 1) W.OneLayer × (StandardOntoZ1 1 (texture 15 2 (extent 1 1 2)) (extent 1 1 1) W.WithLayers → ⊥)
   -- the standard refuses, however it is read: a slice of a volume, document 01's two slices, and nothing of a 1D texture
   pub volume : OnlyPlanned (texture 0 3 (extent 1 1 2)) (extent 1 1 1)

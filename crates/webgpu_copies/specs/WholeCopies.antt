@@ -10,16 +10,14 @@ use Rattle.measures.specs.declared.OptionU64.{OptionU64}
 use Rattle.formats.specs.declared.TextureAspect.the-variants.{All}
 use Rattle.records.specs.declared.Buffer.{Buffer}
 use Rattle.records.specs.declared.Device.{Device}
-use Rattle.records.specs.declared.Texture.{Texture}
-use Rattle.records.specs.declared.TexelCopyTextureInfo.{TexelCopyTextureInfo}
-use Rattle.records.specs.declared.TexelCopyBufferLayout.{TexelCopyBufferLayout}
 use Rattle.buffer_copies.specs.declared.BufferPlan.{BufferPlan}
 use Rattle.buffer_copies.specs.declared.BufferPlanned.{BufferPlanned}
 use Rattle.buffer_copies.specs.declared.BufferPlanned.the-variants as B
 use Rattle.buffer_texture_plans.specs.declared.BufferTexturePlan.{BufferTexturePlan}
 use Rattle.buffer_texture.specs.declared.BufferTexturePlanned.{BufferTexturePlanned}
 use Rattle.buffer_texture.specs.declared.BufferTexturePlanned.the-variants as T
-use Rattle.texture_plans.specs.declared.TextureSide.{TextureSide}
+use Rattle.buffer_texture.specs.Copy.{Direction, Upload, Download, Copy}
+use Rattle.records.specs.declared.TextureSide.{TextureSide}
 use Rattle.texture_plans.specs.declared.TexturePlan.{TexturePlan}
 use Rattle.texture_copies.specs.declared.TexturePlanned.{TexturePlanned}
 use Rattle.texture_copies.specs.declared.TexturePlanned.the-variants as X
@@ -58,24 +56,23 @@ BufferToBuffer =
 
 -- ---- between a buffer and a texture
 
-pub record Copy : Type 0 where
-  pub device : Device
-  pub buffer : Buffer
-  pub layout : TexelCopyBufferLayout
-  pub texture : Texture
-  pub view : TexelCopyTextureInfo
-  pub size : Extent3d
+abbrev pub plannedBy : Direction → Copy → BufferTexturePlanned
+plannedBy Upload c = bufferToTexture (c .device) (c .buffer) (c .layout) (c .texture) (c .view) (c .size)
+plannedBy Download c = textureToBuffer (c .device) (c .texture) (c .view) (c .buffer) (c .layout) (c .size)
 
--- `reads` where the texture is read: texture to buffer
-abbrev pub planned : Bool → Copy → BufferTexturePlanned
-planned true c = textureToBuffer (c .device) (c .texture) (c .view) (c .buffer) (c .layout) (c .size)
-planned false c = bufferToTexture (c .device) (c .buffer) (c .layout) (c .texture) (c .view) (c .size)
+abbrev pub planned : Copy → BufferTexturePlanned
+planned c = plannedBy (c .direction) c
+
+-- the texture is read: texture to buffer
+abbrev pub reads : Direction → Bool
+reads Upload = false
+reads Download = true
 
 abbrev pub GivesPlan : BufferTexturePlanned → Type 0
 GivesPlan r = (p : BufferTexturePlan) × (r ≡ T.Plan p)
 
-abbrev pub StandardCopy : W.Reading → Bool → Copy → Type 0
-StandardCopy reading reads c = W.CopyBufferTexture reading reads (c .buffer) (c .layout) (c .texture) (c .view) (c .size)
+abbrev pub StandardCopy : W.Reading → Copy → Type 0
+StandardCopy reading c = W.CopyBufferTexture reading (reads (c .direction)) (c .buffer) (c .layout) (c .texture) (c .view) (c .size)
 
 -- what is compared: formats of the standard, and figures as their 32-bit fields hold them
 pub record Compared (c : Copy) : Type 0 where
@@ -96,26 +93,14 @@ abbrev pub CopyExcepted : Copy → Type 0
 CopyExcepted c = (BufferInBounds (c .buffer) → ⊥) ⊎ ((TextureInBounds (c .texture) → ⊥) ⊎ (DepthRestricted c ⊎ AspectLacking c))
 
 -- the whole size of a texture that is copied whole is that of one layer
-abbrev pub Agrees : Bool → Type 0
-Agrees reads = (c : Copy) → Compared c → GivesPlan (planned reads c) ↔ (StandardCopy W.OneLayer reads c × (CopyExcepted c → ⊥))
+abbrev pub BufferTexture : Type 0
+BufferTexture = (c : Copy) → Compared c → GivesPlan (planned c) ↔ (StandardCopy W.OneLayer c × (CopyExcepted c → ⊥))
 
 -- it is that of all layers: then the standard refuses some of them, and that alone more
-abbrev pub AgreesWithLayers : Bool → Type 0
-AgreesWithLayers reads =
+abbrev pub BufferTextureWithLayers : Type 0
+BufferTextureWithLayers =
     (c : Copy) → Compared c
-    → (GivesPlan (planned reads c) × (SomeLayers (c .texture) (c .view) (c .size) → ⊥)) ↔ (StandardCopy W.WithLayers reads c × (CopyExcepted c → ⊥))
-
-abbrev pub UploadAgrees : Type 0
-UploadAgrees = Agrees false
-
-abbrev pub UploadAgreesWithLayers : Type 0
-UploadAgreesWithLayers = AgreesWithLayers false
-
-abbrev pub DownloadAgrees : Type 0
-DownloadAgrees = Agrees true
-
-abbrev pub DownloadAgreesWithLayers : Type 0
-DownloadAgreesWithLayers = AgreesWithLayers true
+    → (GivesPlan (planned c) × (SomeLayers (c .texture) (c .view) (c .size) → ⊥)) ↔ (StandardCopy W.WithLayers c × (CopyExcepted c → ⊥))
 
 -- ---- texture to texture
 

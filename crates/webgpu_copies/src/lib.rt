@@ -2,7 +2,7 @@
 // the check asks for its proof.
 ghost use Rattle.webgpu_copies.specs.Bounds.{RecordBounds};
 ghost use Rattle.webgpu_copies.specs.Examples.{Examples};
-ghost use Rattle.webgpu_copies.specs.WholeCopies.{BufferToBuffer, UploadAgrees, UploadAgreesWithLayers, DownloadAgrees, DownloadAgreesWithLayers, TextureToTexture, TextureToTextureWithLayers, OntoItselfParts};
+ghost use Rattle.webgpu_copies.specs.WholeCopies.{BufferToBuffer, BufferTexture, BufferTextureWithLayers, TextureToTexture, TextureToTextureWithLayers, OntoItselfParts};
 
 // Records are within their bounds exactly where document 01 has them so.
 pub fn records_agree()
@@ -14,16 +14,10 @@ pub fn buffer_to_buffer_agrees()
     ensures { λ _. ⌜ BufferToBuffer ⌝ }
 {}
 
-// The same of a copy from a buffer to a texture, by each reading of the whole size.
-pub fn upload_agrees()
-    ensures one_layer { λ _. ⌜ UploadAgrees ⌝ }
-    ensures layers { λ _. ⌜ UploadAgreesWithLayers ⌝ }
-{}
-
-// The same of a copy from a texture to a buffer.
-pub fn download_agrees()
-    ensures one_layer { λ _. ⌜ DownloadAgrees ⌝ }
-    ensures layers { λ _. ⌜ DownloadAgreesWithLayers ⌝ }
+// The same of a copy between a buffer and a texture, either way, by each reading of the whole size.
+pub fn buffer_texture_agrees()
+    ensures one_layer { λ _. ⌜ BufferTexture ⌝ }
+    ensures layers { λ _. ⌜ BufferTextureWithLayers ⌝ }
 {}
 
 // The same of a copy between textures, but for one texture onto itself, where the two part at another z.

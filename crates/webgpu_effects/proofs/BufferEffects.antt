@@ -21,11 +21,10 @@ use Rattle.records.proofs.Bounded.{buffer-laws}
 use Rattle.ranges.specs.Range as R
 use Rattle.ranges.specs.Range.{copyExtent, arrayLayerCount}
 use Rattle.linear.specs.declared.Dense.{Dense}
-use Rattle.linear.specs.Linear.{lacks, stacked, severalRows, severalImages, dataOf, denseOf}
-use Rattle.linear.specs.Laws.{imageStride, imageBytes}
+use Rattle.linear.specs.Linear.{lacks, stacked, severalRows, severalImages, imageStride, imageBytes, dataOf, denseOf}
 use Rattle.selectors.specs.Selector as S
 use Rattle.selectors.specs.Selector.{baseOf}
-use Rattle.copies.specs.Copies.{isEmpty}
+use Rattle.measures.specs.Measure.{isEmpty}
 use Rattle.buffer_texture_plans.specs.declared.BufferTextureCopy.{BufferTextureCopy}
 use Rattle.buffer_texture_plans.specs.declared.BufferTexturePlan.{BufferTexturePlan}
 use Rattle.buffer_texture_plans.specs.Plan.{firstRegion, planOf}
@@ -33,8 +32,9 @@ use Rattle.webgpu.specs.Formats.{Part, Format, Known, formatOf, dimensionOf}
 use Rattle.webgpu.specs.WebGpu.{orZero, IsGiven}
 use Rattle.webgpu.proofs.Rows.{row-of}
 use Rattle.webgpu.proofs.Sizes.{dimension-is}
-use Rattle.ownership.specs.Copy.{Copy}
-use Rattle.ownership.proofs.Accepted.{Checks, checks-of, planFor}
+use Rattle.buffer_texture.specs.Copy.{Copy}
+use Rattle.buffer_texture.specs.Plan.{planFor}
+use Rattle.ownership.proofs.Accepted.{Checks, checks-of}
 use Rattle.ownership.proofs.Asks.{nextRegions, gives, gives-only}
 use Rattle.webgpu_effects.specs.Blocks.{TexelBlock, In}
 use Rattle.webgpu_effects.specs.Standard.{layerOf, Stands}
@@ -64,9 +64,9 @@ or-right : (s t : Bool) → t ≡ true → (s || t) ≡ true
 or-right true t e = refl
 or-right false t e = e
 
-module _ (c : Copy) (p : BufferTexturePlan) (k : Checks (c .reads) c p) (known : Known (c .texture .format)) where
+module _ (c : Copy) (p : BufferTexturePlan) (k : Checks c p) (known : Known (c .texture .format)) where
   abbrev plan : BufferTexturePlan
-  plan = planFor (c .reads) c
+  plan = planFor c
 
   abbrev f : Format
   f = formatOf (c .texture .format)
@@ -84,7 +84,7 @@ module _ (c : Copy) (p : BufferTexturePlan) (k : Checks (c .reads) c p) (known :
   dense = denseOf (c .texture .format) (c .view .aspect) (c .size)
 
   side : Side (c .texture) (c .view) (c .size)
-  side = side-of (c .texture) (c .view) (c .size) (k .texture-bounds) (k .range) known
+  side = side-of (c .texture) (c .view) (c .size) (k .accepted .texture-bounds) (k .accepted .range) known
 
   deep : z + d ≤ limit v
   deep = rw (dimension-is (c .texture .dimension)) (side .deep)
@@ -92,11 +92,11 @@ module _ (c : Copy) (p : BufferTexturePlan) (k : Checks (c .reads) c p) (known :
   -- ---- how many regions
 
   left-is : isEmpty (c .size) ≡ false → plan .left ≡ R.layersOf v d
-  unfolding planOf arrayLayerCount
+  unfolding planFor planOf arrayLayerCount
   left-is e = rw e
 
   none-left : isEmpty (c .size) ≡ true → plan .left ≡ 0
-  unfolding planOf
+  unfolding planFor planOf
   none-left e = rw e
 
   some-left : (m : ℕ) → m < plan .left → (0 < d) × (m < R.layersOf v d)
@@ -112,18 +112,18 @@ module _ (c : Copy) (p : BufferTexturePlan) (k : Checks (c .reads) c p) (known :
   left-of m pw ph pd h = rw (left-is (no-zero _ _ _ pw ph pd)) h
 
   stride-is : plan .stride ≡ imageStride (c .layout) dense
-  unfolding planOf dataOf
+  unfolding planFor planOf dataOf
   stride-is = refl
 
   unwrapped : (m : ℕ) → m < plan .left → Unwrapped plan m
-  unfolding planOf firstRegion baseOf dataOf denseOf
+  unfolding planFor planOf firstRegion baseOf dataOf denseOf
   unwrapped m h =
       let s = some-left m h in
       let n = few v z d m deep (s .0) (s .1) in
-      let small = buffer-laws (c .buffer) (k .buffer-bounds) in
+      let small = buffer-laws (c .buffer) (k .accepted .buffer-bounds) in
       let rows : m * plan .stride ≤ (d - 1) * plan .stride = mul-le-mul-right (plan .stride) (omega (arith, n .0)) in
       let total = stacked-some d (plan .stride) (imageBytes (c .layout) dense) (s .0) in
-      (omega (arith, k .linear .inside, total), n .1)
+      (omega (arith, k .accepted .linear .inside, total), n .1)
 
   -- ---- a region's block is the standard's
 
@@ -145,16 +145,16 @@ module _ (c : Copy) (p : BufferTexturePlan) (k : Checks (c .reads) c p) (known :
   unfolding denseOf severalRows severalImages
   several-images n h l =
       let e : ltb 1 d ≡ true = lt-ltb 1 d (omega arith) in
-      (is-given _ _ (k .linear .bytes-given) (rw e), is-given _ _ (k .linear .rows-given) e)
+      (is-given _ _ (k .accepted .linear .bytes-given) (rw e), is-given _ _ (k .accepted .linear .rows-given) e)
 
   rows-are : blocksOf (c .size .height) (F.blockHeight (c .texture .format)) ≡ high
   rows-are =
-      block-laws _ (every-format (c .texture .format) .height-some) .quotient (c .size .height) (k .range .height-whole)
+      block-laws _ (every-format (c .texture .format) .height-some) .quotient (c .size .height) (k .accepted .range .height-whole)
       ∙ ap (λ (n : ℕ). c .size .height / n) (row-of (c .texture .format) known .height)
 
   several-rows : (n : ℕ) → 0 < n → n < high → IsGiven bytesPerRow
   unfolding denseOf severalRows
-  several-rows n h l = is-given _ _ (k .linear .bytes-given) (or-right (ltb 1 d) _ (lt-ltb 1 (blocksOf (c .size .height) (F.blockHeight (c .texture .format))) (rw rows-are (omega arith))))
+  several-rows n h l = is-given _ _ (k .accepted .linear .bytes-given) (or-right (ltb 1 d) _ (lt-ltb 1 (blocksOf (c .size .height) (F.blockHeight (c .texture .format))) (rw rows-are (omega arith))))
 
   at-byte :
       (m dz n i j : ℕ) (part : Part) → m + dz ≡ n → n < d → j < high
@@ -167,7 +167,7 @@ module _ (c : Copy) (p : BufferTexturePlan) (k : Checks (c .reads) c p) (known :
   -- ---- a region's block is the standard's
 
   forward : (m : ℕ) (b : TexelBlock) (byte : ℕ) → m < plan .left → Puts f (numbered plan m) b byte → Stands c b byte
-  unfolding planOf firstRegion baseOf copyExtent
+  unfolding planFor planOf firstRegion baseOf copyExtent
   forward m b byte h q =
       let s = some-left m h in
       let im = image-of v z d m (q .dz) deep (s .0) (s .1) (q .z) in
@@ -187,7 +187,7 @@ module _ (c : Copy) (p : BufferTexturePlan) (k : Checks (c .reads) c p) (known :
       }
 
   backward : (b : TexelBlock) (byte : ℕ) → Stands c b byte → (m : ℕ) × (m < plan .left) × Puts f (numbered plan m) b byte
-  unfolding planOf firstRegion baseOf copyExtent
+  unfolding planFor planOf firstRegion baseOf copyExtent
   backward b byte q =
       let m = layerFor v (q .k) in
       let im = region-of v z d (q .k) deep (q .image) in
@@ -228,4 +228,4 @@ module _ (c : Copy) (p : BufferTexturePlan) (k : Checks (c .reads) c p) (known :
       }
 
 pub every-buffer-copy : BufferEffects
-every-buffer-copy c p e known = let k = checks-of (c .reads) c p e in rw (← k .plan) (all c p k known)
+every-buffer-copy c p e known = let k = checks-of c p e in rw (← k .plan) (all c p k known)

@@ -11,7 +11,7 @@ use lib.Dec.{eqb}
 use borrow.Author.Tests.{eqb-true, eq-eqb}
 use Rattle.checks.proofs.Rules.{both-true, either}
 use Rattle.checks.proofs.Tables.{everyBelow, at-below}
-use Rattle.flags.specs.Flags.{holds, met}
+use Rattle.flags.specs.Flags.{meet}
 use Rattle.formats.specs.declared.TextureAspect.{TextureAspect}
 use Rattle.formats.specs.declared.TextureAspect.the-variants.{All, StencilOnly, DepthOnly, Plane0, Plane1, Plane2}
 use Rattle.formats.specs.Sheet as S
@@ -47,7 +47,7 @@ sameAspects : TextureAspect → ℕ → Bool
 sameAspects asked format = allSame asked (chosenAspects format asked) (formatOf format .parts)
 
 all-aspects : (asked : TextureAspect) → everyBelow (sameAspects asked) 21 ≡ true
-unfolding sameAspects allSame hasB formatOf formats chosenAspects askedOf aspectsOf rowOf S.formats met holds
+unfolding sameAspects allSame hasB formatOf formats chosenAspects askedOf aspectsOf rowOf S.formats meet
 all-aspects All = refl
 all-aspects StencilOnly = refl
 all-aspects DepthOnly = refl

@@ -5,7 +5,7 @@ use Prim.Native.Nat.{ℕ}
 use native.Mathlib.Omega.{arith}
 use Rattle.checks.specs.Checks.{stop-if}
 use Rattle.measures.specs.Measure.{multiple, blocksOf, roundedUp, physicalSize}
-use Rattle.flags.specs.Flags.{holds}
+use Rattle.flags.specs.Flags.{contains}
 use Rattle.levels.specs.Level.{halved, sideAt, mipLevelSize, halvings, maxMipLevels, dimensionOf}
 use Rattle.formats.specs.Sheet.{formats, rowOf, isFormat, blockWidth, blockHeight, aspectsOf, isDepthStencil, removeSrgb, isMultiPlanar}
 use Rattle.formats.specs.Aspects.{askedOf, chosenAspects, aspectSpecificFormat}
@@ -27,7 +27,7 @@ abbrev Planned : Copy → Type 0
 Planned c = textureToTexture 0 (c .src) 1 (c .dst) (c .size) ≡ Plan (planFor c)
 
 planned : Planned (example 2 3) × Planned (example 3 2)
-unfolding stop-if multiple blocksOf roundedUp physicalSize holds halved sideAt mipLevelSize halvings maxMipLevels dimensionOf formats rowOf isFormat blockWidth blockHeight aspectsOf isDepthStencil removeSrgb isMultiPlanar askedOf chosenAspects aspectSpecificFormat after within sizeInBounds mipSide levelsInBounds mayBeMultisampled samplesInBounds dimensionSuits sidesWhole planesSuit fieldsInBounds formatSuits textureInBounds textureChecked logicalExtent physicalExtent isPartial overruns dimensionChecked sidesChecked blocksChecked requiresExactSize copyExtent arrayLayerCount extentChecked alignmentChecked rangeChecked baseOf selectedOf selectorChecked after-range after-selector isThis isPlaneSplit formatsDiffer planeChecked withinOne usable selectedCopy rangedCopy textureToTexture
+unfolding stop-if multiple blocksOf roundedUp physicalSize contains halved sideAt mipLevelSize halvings maxMipLevels dimensionOf formats rowOf isFormat blockWidth blockHeight aspectsOf isDepthStencil removeSrgb isMultiPlanar askedOf chosenAspects aspectSpecificFormat after within sizeInBounds mipSide levelsInBounds mayBeMultisampled samplesInBounds dimensionSuits sidesWhole planesSuit fieldsInBounds formatSuits textureInBounds textureChecked logicalExtent physicalExtent isPartial overruns dimensionChecked sidesChecked blocksChecked requiresExactSize copyExtent arrayLayerCount extentChecked alignmentChecked rangeChecked baseOf selectedOf selectorChecked after-range after-selector isThis isPlaneSplit formatsDiffer planeChecked withinOne usable selectedCopy rangedCopy textureToTexture
 planned = (refl, refl)
 
 r8unorm : W.Known 0

@@ -9,7 +9,7 @@ use Rattle.levels.specs.declared.TextureDimension.{TextureDimension}
 use Rattle.levels.specs.declared.TextureDimension.the-variants.{D1, D2, D3}
 use Rattle.ranges.specs.Range as R
 use Rattle.selectors.specs.Selector as S
-use Rattle.texture_plans.specs.declared.TextureSide.{TextureSide}
+use Rattle.records.specs.declared.TextureSide.{TextureSide}
 use Rattle.webgpu.specs.Formats.{Aspect}
 use Rattle.texture_regions.specs.Regions.{depth}
 use Rattle.webgpu_effects.specs.Blocks.{TexelBlock}

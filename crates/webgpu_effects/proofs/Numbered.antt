@@ -4,7 +4,7 @@ use mathlib.Core.Path.{_≡_, sym, ap, _∙_}
 use Prim.Native.Nat.{ℕ, zero, suc, _+_, _*_, _%_, _^_, _<_}
 use native.Mathlib.Omega.{arith}
 use native.Mathlib.Nat.{zero-mul, suc-mul, one-mul, mod-eq-of-lt}
-use Rattle.copies.specs.Copies.{nextLayer}
+use Rattle.selectors.specs.Selector.{nextLayer}
 use Rattle.buffer_texture_plans.specs.declared.BufferTextureCopy.{BufferTextureCopy}
 use Rattle.buffer_texture_plans.specs.declared.BufferTexturePlan.{BufferTexturePlan}
 use Rattle.buffer_texture_plans.specs.Asking.{moved, advanced}

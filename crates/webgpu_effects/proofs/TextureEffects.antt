@@ -12,7 +12,7 @@ use Rattle.formats.specs.Aspects.{chosenAspects}
 use Rattle.ranges.specs.Range as R
 use Rattle.selectors.specs.declared.TextureCopyBase.{TextureCopyBase}
 use Rattle.selectors.specs.Selector as S
-use Rattle.texture_plans.specs.declared.TextureSide.{TextureSide}
+use Rattle.records.specs.declared.TextureSide.{TextureSide}
 use Rattle.texture_plans.specs.declared.TextureCopy.{TextureCopy}
 use Rattle.webgpu.specs.Formats.{Aspect, Part, Format, formatOf, named, dimensionOf}
 use Rattle.texture_regions.specs.Regions as T

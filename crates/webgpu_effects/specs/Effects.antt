@@ -7,12 +7,13 @@ use Rattle.buffer_texture_plans.specs.declared.BufferTextureCopy.{BufferTexture
 use Rattle.buffer_texture_plans.specs.declared.BufferTexturePlan.{BufferTexturePlan}
 use Rattle.buffer_texture.specs.declared.BufferTexturePlanned.the-variants.{Plan}
 use Rattle.levels.specs.declared.TextureDimension.{TextureDimension}
-use Rattle.texture_plans.specs.declared.TextureSide.{TextureSide}
+use Rattle.records.specs.declared.TextureSide.{TextureSide}
 use Rattle.texture_plans.specs.declared.TextureCopy.{TextureCopy}
 use Rattle.texture_plans.specs.declared.TexturePlan.{TexturePlan}
 use Rattle.texture_copies.specs.declared.TexturePlanned.the-variants as P
 use Rattle.texture_copies.specs.Plan.{textureToTexture}
 use Rattle.webgpu.specs.Formats.{Known, formatOf, dimensionOf}
+use Rattle.buffer_texture.specs.Copy.{Copy}
 use Rattle.ownership.specs.Copy as B
 use Rattle.ownership.specs.Asking.{Gives}
 use Rattle.texture_regions.specs.Regions as T
@@ -24,17 +25,17 @@ use Rattle.webgpu_effects.specs.Regions.{Puts, Carries}
 -- ---- between a buffer and a texture
 
 -- some region of the list puts the block at the byte, or takes it from there
-abbrev pub PutBy : B.Copy → List BufferTextureCopy → TexelBlock → ℕ → Type 0
+abbrev pub PutBy : Copy → List BufferTextureCopy → TexelBlock → ℕ → Type 0
 PutBy c rs b byte = (r : BufferTextureCopy) × In r rs × Puts (formatOf (c .texture .format)) r b byte
 
 -- asking ends, and the regions that it gives put each block where the standard has it, and no other block anywhere
-pub record BufferDoes (c : B.Copy) (p : BufferTexturePlan) : Type 0 where
+pub record BufferDoes (c : Copy) (p : BufferTexturePlan) : Type 0 where
   pub ends : (rs : List BufferTextureCopy) × Gives p rs
   pub does : (rs : List BufferTextureCopy) → Gives p rs → (b : TexelBlock) (byte : ℕ) → PutBy c rs b byte ↔ Stands c b byte
 
 -- of every accepted copy, either way, of a format of the standard, sizes of 0 included
 abbrev pub BufferEffects : Type 0
-BufferEffects = (c : B.Copy) (p : BufferTexturePlan) → B.planned (c .reads) c ≡ Plan p → Known (c .texture .format) → BufferDoes c p
+BufferEffects = (c : Copy) (p : BufferTexturePlan) → B.planned c ≡ Plan p → Known (c .texture .format) → BufferDoes c p
 
 -- ---- between textures
 

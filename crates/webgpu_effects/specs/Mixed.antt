@@ -5,7 +5,7 @@ use mathlib.Core.Logic.{_⊎_, _↔_}
 use Prim.Native.Nat.{ℕ, _<_}
 use Rattle.levels.specs.declared.TextureDimension.the-variants.{D2, D3}
 use Rattle.formats.specs.declared.TextureAspect.the-variants.{All}
-use Rattle.texture_plans.specs.declared.TextureSide.{TextureSide}
+use Rattle.records.specs.declared.TextureSide.{TextureSide}
 use Rattle.texture_plans.specs.declared.TextureCopy.{TextureCopy}
 use Rattle.texture_regions.specs.Regions.{Copy, depth}
 use Rattle.webgpu_effects.specs.Blocks.{TexelBlock}

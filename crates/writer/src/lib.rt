@@ -22,7 +22,7 @@ pub struct Written {
 }
 
 // The numbers of each region.
-pub fn fields_of(plan: Plan) -> u64
+fn fields_of(plan: Plan) -> u64
     ensures { λ r. ⌜ r ≡ fieldsOf plan ⌝ }
     ensures few { λ r. ⌜ r ≤ 15 ⌝ }
 {

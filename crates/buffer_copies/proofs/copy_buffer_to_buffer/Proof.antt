@@ -2,10 +2,11 @@
 -- Assumes nothing.
 use borrow.Author.Needs.{needs}
 use Rattle.buffer_copies.proofs.Rules.{planned}
-use Rattle.buffer_copies.specs.BufferCopies.{bufferToBuffer}
+use Rattle.buffer_copies.specs.Stages.{copyStaged}
+use Rattle.buffer_copies.proofs.Staged.{by-copy-law}
 use Rattle.buffer_copies.proofs.copy_buffer_to_buffer.Statement.{statement}
 use Rattle.buffer_copies.proofs.copy_buffer_to_buffer.Tie as tie
 
 pub copy-buffer-to-buffer-spec : {M : Type 1} → statement M
-unfolding bufferToBuffer
-copy-buffer-to-buffer-spec = tie.close (tie.spec (λ c κs. search needs) (λ c. search needs) (λ c. search needs) (λ c κs. search needs) (λ c. search planned depth 14) (λ c κs. search needs) (λ c. search needs) (λ c. search needs) (λ c κs. search needs) (λ c. search planned depth 14) (λ c κs. search needs) (λ c. search planned depth 14))
+unfolding copyStaged
+copy-buffer-to-buffer-spec = tie.close (tie.spec (λ c κs. search needs) (λ c. search needs) (λ c. search needs) (λ c κs. search needs) (λ c. by-copy-law _ _ _ _ _ _ _ _ _ (search planned depth 14)) (λ c κs. search needs) (λ c. search needs) (λ c. search needs) (λ c κs. search needs) (λ c. by-copy-law _ _ _ _ _ _ _ _ _ (search planned depth 14)) (λ c κs. search needs) (λ c. by-copy-law _ _ _ _ _ _ _ _ _ (search planned depth 14)))

@@ -2,7 +2,7 @@
 -- Assumes nothing.
 use borrow.Author.Needs.{needs}
 use Rattle.buffer_copies.proofs.Rules.{planned}
-use Rattle.buffer_copies.specs.BufferCopies.{fittingCopy}
+use Rattle.buffer_copies.specs.Stages.{fittingCopy}
 use Rattle.buffer_copies.proofs.copy_fitting.Statement.{statement}
 use Rattle.buffer_copies.proofs.copy_fitting.Tie as tie
 

@@ -2,7 +2,7 @@
 -- Assumes nothing.
 use borrow.Author.Needs.{needs}
 use Rattle.buffer_copies.proofs.Rules.{planned}
-use Rattle.buffer_copies.specs.BufferCopies.{sizedCopy}
+use Rattle.buffer_copies.specs.Stages.{sizedCopy}
 use Rattle.buffer_copies.proofs.copy_sized.Statement.{statement}
 use Rattle.buffer_copies.proofs.copy_sized.Tie as tie
 

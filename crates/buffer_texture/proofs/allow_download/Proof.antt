@@ -2,7 +2,7 @@
 -- Assumes nothing.
 use borrow.Author.Needs.{needs}
 use Rattle.buffer_texture.proofs.Rules.{planned}
-use Rattle.buffer_texture.specs.Plan.{downloadAllowed}
+use Rattle.buffer_texture.specs.Stages.{downloadAllowed}
 use Rattle.buffer_texture.proofs.allow_download.Statement.{statement}
 use Rattle.buffer_texture.proofs.allow_download.Tie as tie
 

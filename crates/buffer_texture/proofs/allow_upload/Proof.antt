@@ -2,7 +2,7 @@
 -- Assumes nothing.
 use borrow.Author.Needs.{needs}
 use Rattle.buffer_texture.proofs.Rules.{planned}
-use Rattle.buffer_texture.specs.Plan.{uploadAllowed}
+use Rattle.buffer_texture.specs.Stages.{uploadAllowed}
 use Rattle.buffer_texture.proofs.allow_upload.Statement.{statement}
 use Rattle.buffer_texture.proofs.allow_upload.Tie as tie
 

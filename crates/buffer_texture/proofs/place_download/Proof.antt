@@ -3,7 +3,7 @@
 use borrow.Author.Needs.{needs}
 use Rattle.buffer_texture.proofs.Rules.{planned, end-fits}
 use Rattle.refusals.specs.declared.CopySide.the-variants.{Destination}
-use Rattle.buffer_texture.specs.Plan.{downloadPlaced}
+use Rattle.buffer_texture.specs.Stages.{downloadPlaced}
 use Rattle.buffer_texture.proofs.place_download.Statement.{statement}
 use Rattle.buffer_texture.proofs.place_download.Tie as tie
 

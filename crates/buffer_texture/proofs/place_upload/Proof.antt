@@ -3,7 +3,7 @@
 use borrow.Author.Needs.{needs}
 use Rattle.buffer_texture.proofs.Rules.{planned, end-fits}
 use Rattle.refusals.specs.declared.CopySide.the-variants.{Source}
-use Rattle.buffer_texture.specs.Plan.{uploadPlaced}
+use Rattle.buffer_texture.specs.Stages.{uploadPlaced}
 use Rattle.buffer_texture.proofs.place_upload.Statement.{statement}
 use Rattle.buffer_texture.proofs.place_upload.Tie as tie
 

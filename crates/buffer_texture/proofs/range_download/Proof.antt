@@ -2,7 +2,7 @@
 -- Assumes nothing.
 use borrow.Author.Needs.{needs}
 use Rattle.buffer_texture.proofs.Rules.{planned}
-use Rattle.buffer_texture.specs.Plan.{downloadRanged}
+use Rattle.buffer_texture.specs.Stages.{downloadRanged}
 use Rattle.buffer_texture.proofs.range_download.Statement.{statement}
 use Rattle.buffer_texture.proofs.range_download.Tie as tie
 

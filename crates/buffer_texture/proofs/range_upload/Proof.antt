@@ -2,7 +2,7 @@
 -- Assumes nothing.
 use borrow.Author.Needs.{needs}
 use Rattle.buffer_texture.proofs.Rules.{planned}
-use Rattle.buffer_texture.specs.Plan.{uploadRanged}
+use Rattle.buffer_texture.specs.Stages.{uploadRanged}
 use Rattle.buffer_texture.proofs.range_upload.Statement.{statement}
 use Rattle.buffer_texture.proofs.range_upload.Tie as tie
 

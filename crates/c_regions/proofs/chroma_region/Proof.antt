@@ -2,7 +2,7 @@
 -- Assumes nothing.
 use native.Mathlib.Omega.{arith}
 use borrow.Author.Needs.{needs}
-use Rattle.formats.specs.Sheet.{PLANE-1}
+use Rattle.flags.specs.FormatAspects.{PLANE-1}
 use Rattle.c_regions.specs.Regions.{withAspects, halved}
 use Rattle.c_regions.proofs.Stores.{stored}
 use Rattle.c_regions.proofs.chroma_region.Statement.{statement}

@@ -1,24 +1,36 @@
 -- `plan_named_copy` meets its contract.
 -- Assumes nothing.
 use mathlib.Core.Path.{_∙_}
-use Rattle.jobs.proofs.Named.{named-copy}
+use Rattle.jobs.proofs.Named.{named-upload, named-download}
 use borrow.Author.Needs.{needs}
 use Rattle.jobs.proofs.plan_named_copy.Statement.{statement}
 use Rattle.jobs.proofs.plan_named_copy.Tie as tie
 
 returns : tie.Need-returns
 returns c =
-    let e = c .before in
-    let v = e .before in
-    let r = v .before in
-    let t = r .before in
-    let j = t .before in
-    let b = j .before in
-    let i = b .before in
-    c .plan-copy .ensures
-    ∙ named-copy _ _ _ _ _ _ _ _ _ _ _ _ (i .word-of .ensures) (b .buffer-at .ensures) (j .word-of2 .ensures) (t .texture-at .ensures) (r .copy-request .ensures) (v .value-of .ensures) (e .either-way .ensures)
+    let k = c .before .before in
+    let n = k .before in
+    let v = n .before in
+    let l = v .before in
+    let t = l .before in
+    let b = t .before in
+    let j = b .before in
+    c .plan-upload .ensures
+    ∙ named-upload _ _ _ _ _ (j .before .word-of .ensures) (j .word-of2 .ensures) (b .buffer-at .ensures) (t .texture-at .ensures) (l .layout-of .ensures) (v .view-of .ensures) (n .extent-of .ensures) (k .value-of .ensures) (c .before .if1 .taken)
+
+returns-2 : tie.Need-returns-2
+returns-2 c =
+    let k = c .before .before in
+    let n = k .before in
+    let v = n .before in
+    let l = v .before in
+    let t = l .before in
+    let b = t .before in
+    let j = b .before in
+    c .plan-download .ensures
+    ∙ named-download _ _ _ _ _ (j .before .word-of .ensures) (j .word-of2 .ensures) (b .buffer-at .ensures) (t .texture-at .ensures) (l .layout-of .ensures) (v .view-of .ensures) (n .extent-of .ensures) (k .value-of .ensures) (c .before .if1 .left)
 
 pub plan-named-copy-spec : {M : Type 1} → statement M
 plan-named-copy-spec =
     tie.close
-    (tie.spec (λ c κs. search needs) (λ c κs. search needs) (λ c κs. search needs) (λ c κs. search needs) (λ c κs. search needs) (λ c κs. search needs) (λ c κs. search needs) (λ c κs. search needs) returns)
+    (tie.spec (λ c κs. search needs) (λ c κs. search needs) (λ c κs. search needs) (λ c κs. search needs) (λ c κs. search needs) (λ c κs. search needs) (λ c κs. search needs) (λ c κs. search needs) (λ c κs. search needs) returns (λ c κs. search needs) returns-2)

@@ -1,51 +1,30 @@
 -- `fill` meets its contract.
 -- Assumes nothing.
-use Prim.Native.Nat.{_-_}
-use mathlib.Core.Path.{_∙_}
 use borrow.Author.Needs.{needs}
-use lib.ListN.{length}
-use Rattle.texts.proofs.Puts.{put-length}
-use Rattle.listing.proofs.Left.{Filling, filling-starts, filling-room, filling-on, filling-less, filling-stops, filling-ends}
+use Rattle.listing.proofs.Whole.{kept-inside, kept-length, part-filled}
 use Rattle.listing.proofs.fill.Statement.{statement}
 use Rattle.listing.proofs.fill.Tie as tie
 
-abbrev Inv-loop : tie.InvT-loop
-Inv-loop s textures buffers out₀ st₀ at₀ out st at = Filling s textures buffers st₀ st out₀ out at
+array-share-prefix-textures : tie.Need-array-share-prefix-textures
+array-share-prefix-textures c = kept-inside (c .before .before .before .before .before .before .before .args .st .textures) _ _ (search needs) (c .before .kept .ensures)
 
-abbrev μ-loop : tie.MeasureT-loop
-μ-loop s textures buffers out₀ st₀ at₀ out st at = length out - at
+slice-aggregate-put-pieces : tie.Need-slice-aggregate-put-pieces
+slice-aggregate-put-pieces c = kept-length _ _ _ (search needs) (c .before .before .kept .ensures)
 
-step-requires : tie.Need-step-requires Inv-loop μ-loop
-step-requires c κs = let w = c .before in filling-room (w .before .loop .inv) (w .loop-test .taken)
+array-share-prefix-buffers : tie.Need-array-share-prefix-buffers
+array-share-prefix-buffers c = kept-inside (c .before .before .before .before .before .before .before .before .args .st .buffers) _ _ (search needs) (c .before .kept2 .ensures)
 
-same-length : tie.Need-same-length Inv-loop μ-loop
-same-length c =
-    let t = c .before .before .before .before .before in
-    let w = t .before .before in
-    put-length (t .step .ensures .0) ∙ w .before .loop .inv .same
+slice-aggregate-put-pieces-2 : tie.Need-slice-aggregate-put-pieces-2
+slice-aggregate-put-pieces-2 c = kept-length _ _ _ (search needs) (c .before .before .kept2 .ensures)
 
-returns : tie.Need-returns Inv-loop μ-loop
+returns : tie.Need-returns
 returns c =
-    let t = c .before .before .before .before .before in
-    let w = t .before .before in
-    let inv = w .before .loop .inv in
-    filling-stops inv (filling-room inv (w .loop-test .taken)) (t .step .ensures .0) (c .if1 .taken)
-
-loop-less : tie.Need-loop-less Inv-loop μ-loop
-loop-less c =
-    let t = c .before .before .before .before .before in
-    let w = t .before .before in
-    let inv = w .before .loop .inv in
-    filling-less inv (filling-room inv (w .loop-test .taken)) (t .step .ensures .0) (c .if1 .left)
-
-loop-again : tie.Need-loop-again Inv-loop μ-loop
-loop-again c =
-    let t = c .before .before .before .before .before in
-    let w = t .before .before in
-    let inv = w .before .loop .inv in
-    filling-on inv (filling-room inv (w .loop-test .taken)) (t .step .ensures .0) _ (t .step .ensures .1) (c .if1 .left)
+    let p = c .before .before .before in
+    let n = c .before .before .before .before .before .before .before in
+    let g = n .before .before .before .before .before .before .before .good .0 .1 .1 in
+    part-filled _ _ _ _ _ _ _ _ (search (needs, g)) (n .before .kept .ensures) (search (needs, g .1 .1)) (n .kept2 .ensures) (p .put-pieces .ensures)
 
 pub fill-spec : {M : Type 1} → statement M
 fill-spec =
     tie.close
-    (tie.spec Inv-loop μ-loop (λ c. filling-starts _ _ _ _ _) (λ c. c .loop .inv .inside) step-requires same-length returns loop-less loop-again (λ c. c .before .loop .inv .same) (λ c. filling-ends (c .before .loop .inv) (c .loop-test .left)))
+    (tie.spec (λ c κs. search needs) (λ c κs. search needs) array-share-prefix-textures slice-aggregate-put-pieces array-share-prefix-buffers slice-aggregate-put-pieces-2 (λ c κs. search needs) (search needs) returns)

@@ -1,6 +1,6 @@
 -- `listing_laws` meets its contract.
 -- Assumes nothing.
-use Rattle.listing.proofs.Left.{listed}
+use Rattle.listing.proofs.Whole.{listed}
 use Rattle.listing.proofs.listing_laws.Statement.{statement}
 use Rattle.listing.proofs.listing_laws.Tie as tie
 

@@ -4,15 +4,15 @@ use native.Mathlib.Omega.{arith}
 use native.Mathlib.Nat.{pos-of-ne-zero}
 use borrow.Author.Needs.{needs}
 use lib.ListN.{length}
-use Rattle.listing.specs.Listing.{textLeft}
+use Rattle.listing.specs.Listing.{restOf}
 use Rattle.plan_sheet.proofs.list.Statement.{statement}
 use Rattle.plan_sheet.proofs.list.Tie as tie
 
 abbrev Inv-loop : tie.InvT-loop
-Inv-loop s textures buffers st₀ st = Unit {0}
+Inv-loop s st₀ st = Unit {0}
 
 abbrev μ-loop : tie.MeasureT-loop
-μ-loop s textures buffers st₀ st = length (textLeft s textures buffers st)
+μ-loop s st₀ st = length (restOf s st)
 
 loop-less : tie.Need-loop-less Inv-loop μ-loop
 loop-less c = let e = c .before in omega (arith, e .before .before .write-some .ensures, pos-of-ne-zero (e .if1 .left))

@@ -7,6 +7,4 @@ use Rattle.flags.proofs.FormatAspects.meets.Tie as tie
 
 pub meets-spec : {M : Type 1} → statement M
 unfolding meets
-meets-spec =
-    tie.close
-    (tie.spec (λ c κs. search needs) (λ c κs. search needs) (λ c κs. search needs) (λ c κs. search needs) (λ c κs. search needs) (λ c κs. search needs) (λ c κs. search needs) (λ c κs. search needs) (λ c κs. search needs) (λ c κs. search needs) (λ c κs. search needs) (λ c. cc))
+meets-spec = tie.close (tie.spec (λ c. search needs))
