@@ -20,12 +20,7 @@ use Rattle.records.proofs.Bounded.{texture-laws}
 use Rattle.ranges.specs.Range.{copyExtent, arrayLayerCount}
 use Rattle.ranges.specs.Laws.{RangeLaws}
 use Rattle.selectors.specs.Selector.{baseOf}
-<<<<<<< HEAD
-use Rattle.copies.specs.Copies as C
 use Rattle.records.specs.declared.TextureSide.{TextureSide}
-=======
-use Rattle.records.specs.declared.TextureSide.{TextureSide}
->>>>>>> textures
 use Rattle.texture_plans.specs.declared.CopyParts.{CopyParts}
 use Rattle.texture_plans.specs.declared.CopyParts.the-variants.{Whole, DepthStencil, Planes}
 use Rattle.texture_plans.specs.declared.TextureCopy.{TextureCopy}

@@ -25,12 +25,7 @@ use Rattle.records.specs.Extents.{logicalExtent}
 use Rattle.init.specs.declared.MemoryInitKind.{MemoryInitKind}
 use Rattle.init.specs.declared.MemoryInitKind.the-variants.{ImplicitlyInitialized, NeedsInitializedMemory}
 use Rattle.init.specs.Init as I
-<<<<<<< HEAD
-use Rattle.copies.specs.Copies as C
-=======
 use Rattle.measures.specs.Measure as M
-use Rattle.records.specs.declared.TextureSide.{TextureSide}
->>>>>>> textures
 use Rattle.texture_plans.specs.Plan as N
 use Rattle.texture_copies.specs.Copy as T
 use Rattle.texture_regions.specs.Regions.{Copy, dimension, isEmpty}

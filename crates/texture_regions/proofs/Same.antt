@@ -24,11 +24,6 @@ use Rattle.records.specs.declared.TextureSide.{TextureSide}
 use Rattle.records.specs.Bounds.{textureInBounds, fieldsInBounds, samplesInBounds, formatSuits}
 use Rattle.ranges.specs.Range as R
 use Rattle.selectors.specs.Selector as S
-<<<<<<< HEAD
-use Rattle.texture_plans.specs.declared.TexturePlan.{TexturePlan}
-=======
-use Rattle.records.specs.declared.TextureSide.{TextureSide}
->>>>>>> textures
 use Rattle.texture_plans.specs.declared.CopyParts.the-variants.{Whole, DepthStencil, Planes}
 use Rattle.texture_plans.specs.Plan as N
 use Rattle.texture_copies.specs.Copy.{isThis, isPlaneSplit}
