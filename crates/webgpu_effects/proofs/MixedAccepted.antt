@@ -3,20 +3,22 @@
 use mathlib.Core.Path.{_≡_, refl}
 use Prim.Native.Nat.{ℕ}
 use native.Mathlib.Omega.{arith}
+use mathlib.Core.List.{flatten}
 use Rattle.checks.specs.Checks.{stop-if}
 use Rattle.measures.specs.Measure.{multiple, blocksOf, roundedUp, physicalSize}
 use Rattle.flags.specs.Flags.{contains}
 use Rattle.levels.specs.Level.{halved, sideAt, mipLevelSize, halvings, maxMipLevels, dimensionOf}
 use Rattle.formats.specs.Sheet.{formats, rowOf, isFormat, blockWidth, blockHeight, aspectsOf, isDepthStencil, removeSrgb, isMultiPlanar}
 use Rattle.formats.specs.Aspects.{askedOf, chosenAspects, aspectSpecificFormat}
-use Rattle.refusals.specs.Answers.{after}
-use Rattle.records.specs.Bounds.{within, sizeInBounds, mipSide, levelsInBounds, mayBeMultisampled, samplesInBounds, dimensionSuits, sidesWhole, planesSuit, fieldsInBounds, formatSuits, textureInBounds, textureChecked}
+use Rattle.refusals.specs.Order.{refuse-if, first, decided}
+use Rattle.records.specs.Bounds.{within, sizeInBounds, mipSide, levelsInBounds, mayBeMultisampled, samplesInBounds, dimensionSuits, sidesWhole, planesSuit, fieldsInBounds, formatSuits, textureInBounds, textureChecks}
 use Rattle.records.specs.Extents.{logicalExtent, physicalExtent}
-use Rattle.ranges.specs.Range.{isPartial, overruns, dimensionChecked, sidesChecked, blocksChecked, requiresExactSize, copyExtent, arrayLayerCount, extentChecked, alignmentChecked, rangeChecked}
-use Rattle.selectors.specs.Selector.{baseOf, selectedOf, selectorChecked}
-use Rattle.copies.specs.Copies.{after-range, after-selector}
+use Rattle.ranges.specs.Range.{isPartial, overruns, dimensionChecks, sideChecks, blockChecks, requiresExactSize, rangeChecks}
+use Rattle.selectors.specs.Selector.{selectorChecks}
 use Rattle.texture_copies.specs.declared.TexturePlanned.the-variants.{Plan}
-use Rattle.texture_copies.specs.Plan.{isThis, isPlaneSplit, formatsDiffer, planeChecked, withinOne, usable, selectedCopy, rangedCopy, textureToTexture}
+use Rattle.texture_copies.specs.Copy as T
+use Rattle.texture_copies.specs.Copy.{isOneTexture, isThis, isPlaneSplit, formatsDiffer}
+use Rattle.texture_copies.specs.Plan.{copyChecks, textureToTexture}
 use Rattle.webgpu.specs.Formats as W
 use Rattle.texture_regions.specs.Regions.{Copy, regionsOf}
 use Rattle.texture_regions.proofs.Accepted.{planFor}
@@ -27,7 +29,7 @@ abbrev Planned : Copy → Type 0
 Planned c = textureToTexture 0 (c .src) 1 (c .dst) (c .size) ≡ Plan (planFor c)
 
 planned : Planned (example 2 3) × Planned (example 3 2)
-unfolding stop-if multiple blocksOf roundedUp physicalSize contains halved sideAt mipLevelSize halvings maxMipLevels dimensionOf formats rowOf isFormat blockWidth blockHeight aspectsOf isDepthStencil removeSrgb isMultiPlanar askedOf chosenAspects aspectSpecificFormat after within sizeInBounds mipSide levelsInBounds mayBeMultisampled samplesInBounds dimensionSuits sidesWhole planesSuit fieldsInBounds formatSuits textureInBounds textureChecked logicalExtent physicalExtent isPartial overruns dimensionChecked sidesChecked blocksChecked requiresExactSize copyExtent arrayLayerCount extentChecked alignmentChecked rangeChecked baseOf selectedOf selectorChecked after-range after-selector isThis isPlaneSplit formatsDiffer planeChecked withinOne usable selectedCopy rangedCopy textureToTexture
+unfolding stop-if multiple blocksOf roundedUp physicalSize contains halved sideAt mipLevelSize halvings maxMipLevels dimensionOf formats rowOf isFormat blockWidth blockHeight aspectsOf isDepthStencil removeSrgb isMultiPlanar askedOf chosenAspects aspectSpecificFormat refuse-if first decided flatten within sizeInBounds mipSide levelsInBounds mayBeMultisampled samplesInBounds dimensionSuits sidesWhole planesSuit fieldsInBounds formatSuits textureInBounds textureChecks logicalExtent physicalExtent isPartial overruns dimensionChecks sideChecks blockChecks requiresExactSize rangeChecks selectorChecks isOneTexture isThis isPlaneSplit formatsDiffer copyChecks T.planFor textureToTexture
 planned = (refl, refl)
 
 r8unorm : W.Known 0

@@ -87,8 +87,8 @@ pub record Done (c : T.Copy) (from to : TexelBlock) : Type 0 where
   pub image : ImageCopied c (shifted (c .src) layer dz) (shifted (c .dst) layer dz) from to
 
 module _ (c : T.Copy) (rs : List TextureCopy) (k : Accepted c rs) where
-  checks : A.Checks c (k .plan)
-  checks = A.checks-of (k .i) (k .j) c (k .plan) (k .planned)
+  checks : A.Accepted (k .i) (k .j) c
+  checks = A.accepted (k .i) (k .j) c (k .plan) (k .planned) .0
 
   regions-are : rs ≡ T.regionsOf c
   regions-are = every-texture-copy (k .i) (k .j) c (k .plan) (k .planned) rs .0 (k .given)
@@ -106,13 +106,13 @@ module _ (c : T.Copy) (rs : List TextureCopy) (k : Accepted c rs) where
   dst-side = side-of (c .dst .texture) (c .dst .view) (c .size) (checks .dst-bounds) (checks .dst-range) (k .dst-known)
 
   abbrev word : ℕ
-  word = parts.word c (k .plan) checks (k .src-known) (k .dst-known)
+  word = parts.word (k .i) (k .j) c checks (k .src-known) (k .dst-known)
 
   alike : Alike (c .src .texture .format) (c .dst .texture .format)
-  alike = parts.formats-alike c (k .plan) checks (k .src-known) (k .dst-known)
+  alike = parts.formats-alike (k .i) (k .j) c checks (k .src-known) (k .dst-known)
 
   chosen : chosenAspects (c .dst .texture .format) (c .dst .view .aspect) ≡ word
-  chosen = parts.dst-chosen c (k .plan) checks (k .src-known) (k .dst-known)
+  chosen = parts.dst-chosen (k .i) (k .j) c checks (k .src-known) (k .dst-known)
 
   -- an accepted copy names an aspect
   pub some-named : (p : Part) × In p (named f (c .dst .view .aspect))
@@ -164,7 +164,7 @@ module _ (c : T.Copy) (rs : List TextureCopy) (k : Accepted c rs) where
   done from to (r, i, q) =
       let s = parts.split c (rw regions-are at i) in
       let q′ : Carries f (T.regionOf c (s .layer) (s .part)) from to = rw (s .region) q in
-      let has = parts.part-has c (k .plan) checks (k .src-known) (k .dst-known) (s .part) in
+      let has = parts.part-has (k .i) (k .j) c checks (k .src-known) (k .dst-known) (s .part) in
       let w : Carries f (plain c (s .layer) (s .part .src) (s .part .dst)) from to = rw (plain-region c (s .layer) (s .part) (has (q′ .aspect) (s .of-copy) (q′ .src-bits) .1)) at q′ in
       record {
         some = depth-some (c .size .width) (c .size .height) (T.depth c) (s .some);
@@ -179,7 +179,7 @@ module _ (c : T.Copy) (rs : List TextureCopy) (k : Accepted c rs) where
   carried from to d =
       let im = d .image in
       let named = named-has (c .dst .texture .format) (c .dst .view .aspect) (k .dst-known) (im .part) (im .asked) in
-      let q = parts.has-part c (k .plan) checks (k .src-known) (k .dst-known) (im .part .aspect) (rw chosen at (named .1)) in
+      let q = parts.has-part (k .i) (k .j) c checks (k .src-known) (k .dst-known) (im .part .aspect) (rw chosen at (named .1)) in
       let some = no-zero (c .size .width) (c .size .height) (T.depth c) (some-blocks _ _ _ (im .column)) (some-blocks _ _ _ (im .row)) (d .some) in
       let r = T.regionOf c (d .layer) (q .0) in
       let w : Carries f r from to = rw (plain-region c (d .layer) (q .0) (q .4)) (carries from to (d .layer) (d .dz) (q .0 .src) (q .0 .dst) (d .deep) im (q .2) (q .3)) in

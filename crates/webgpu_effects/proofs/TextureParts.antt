@@ -1,7 +1,7 @@
 -- The regions of a copy between formats of the standard: each is of a layer and a part, and the parts have the format's aspects.
 -- Assumes nothing.
 use mathlib.Core.Path.{_≡_, refl, sym, ap, _∙_}
-use mathlib.Core.Bool.{Bool, true, false, _&&_, cond}
+use mathlib.Core.Bool.{Bool, true, false, cond}
 use mathlib.Core.List.{List, [], _∷_}
 use Prim.Native.Nat.{ℕ, zero, suc, _+_, _*_, _/_, _%_, _<_}
 use native.Mathlib.Omega.{arith}
@@ -9,13 +9,12 @@ use native.Mathlib.Nat.{add-zero, zero-add, mul-zero, mod-lt, div-lt-iff-lt-mul}
 use lib.Dec.{eqb}
 use lib.ListN.{length, getD}
 use lib.Arith.{digits-lt, digits-div, digits-mod}
-use borrow.Author.Tests.{ne-eqb, eqb-true, not-false}
+use borrow.Author.Tests.{ne-eqb, eqb-true}
 use Rattle.checks.specs.Checks.{stop-if}
 use Rattle.formats.specs.Sheet.{aspectsOf, isMultiPlanar, removeSrgb}
 use Rattle.formats.specs.Aspects.{aspectSpecificFormat}
 use Rattle.texture_plans.specs.declared.TextureCopy.{TextureCopy}
-use Rattle.texture_plans.specs.declared.TexturePlan.{TexturePlan}
-use Rattle.texture_copies.specs.Plan.{isThis, isPlaneSplit, formatsDiffer}
+use Rattle.texture_copies.specs.Copy.{isThis, isPlaneSplit}
 use Rattle.webgpu.specs.Formats.{Aspect, Color, Depth, Stencil, Known}
 use Rattle.webgpu.proofs.Rows.{below}
 use Rattle.texture_regions.specs.Regions.{Copy, Part, part, bits, parts, dimension, depth, layersOf, isEmpty, isNv12, regionOf, regionAt, regionsFrom, regionsOf}
@@ -134,7 +133,7 @@ borne word Depth true e h = (part 2 2 1, first refl, refl, refl, refl)
 borne word Stencil true e h = (part 4 4 1, later (first refl), refl, refl, refl)
 borne word a false e h = (part word word 1, first refl, h, h, refl)
 
-module _ (c : Copy) (p : TexturePlan) (k : A.Checks c p) (src-known : Known (c .src .texture .format)) (dst-known : Known (c .dst .texture .format)) where
+module _ (i j : ℕ) (c : Copy) (k : A.Accepted i j c) (src-known : Known (c .src .texture .format)) (dst-known : Known (c .dst .texture .format)) where
   abbrev pub word : ℕ
   word = aspectsOf (c .dst .texture .format)
 
@@ -145,19 +144,13 @@ module _ (c : Copy) (p : TexturePlan) (k : A.Checks c p) (src-known : Known (c .
       rw (ne-eqb (removeSrgb (c .src .texture .format)) 21 (λ e. omega (arith, e)))
 
   pub formats-alike : Alike (c .src .texture .format) (c .dst .texture .format)
-  unfolding formatsDiffer
-  formats-alike =
-      alike _ _ src-known dst-known (eqb-true _ _ (not-false _ (only _ (rw no-split at (k .formats)))))
-    where
-      only : (t : Bool) → (t && true) ≡ false → t ≡ false
-      only true e = e
-      only false e = refl
+  formats-alike = alike _ _ src-known dst-known (k .formats no-split)
 
   src-bits : bits (c .src) ≡ word
-  src-bits = sym (same-bits (c .src) (k .src-bounds)) ∙ eqb-true _ _ (not-false _ (rw no-split at (k .src-aspects))) ∙ formats-alike .aspects
+  src-bits = sym (same-bits (c .src) (k .src-bounds)) ∙ k .src-aspects no-split ∙ formats-alike .aspects
 
   pub dst-chosen : A.bits (c .dst) ≡ word
-  dst-chosen = eqb-true _ _ (not-false _ (k .dst-aspects))
+  dst-chosen = k .dst-aspects
 
   dst-bits : bits (c .dst) ≡ word
   dst-bits = sym (same-bits (c .dst) (k .dst-bounds)) ∙ dst-chosen

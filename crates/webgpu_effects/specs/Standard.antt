@@ -8,7 +8,7 @@ use Rattle.records.specs.declared.Texture.{Texture}
 use Rattle.records.specs.declared.TexelCopyTextureInfo.{TexelCopyTextureInfo}
 use Rattle.webgpu.specs.Formats.{Aspect, Part, formatOf, named, dimensionOf}
 use Rattle.webgpu.specs.WebGpu.{orZero}
-use Rattle.ownership.specs.Copy as B
+use Rattle.buffer_texture.specs.Copy.{Copy}
 use Rattle.texture_regions.specs.Regions as T
 use Rattle.webgpu_effects.specs.Blocks.{TexelBlock, In}
 
@@ -38,7 +38,7 @@ blockAt t view aspect i j k =
 -- ---- between a buffer and a texture
 
 -- the block stands at the byte: of an aspect that the view names, in column i and row j of image k
-pub record Stands (c : B.Copy) (b : TexelBlock) (byte : ℕ) : Type 0 where
+pub record Stands (c : Copy) (b : TexelBlock) (byte : ℕ) : Type 0 where
   pub part : Part
   pub asked : In part (named (formatOf (c .texture .format)) (c .view .aspect))
   pub i : ℕ
