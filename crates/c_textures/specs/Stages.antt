@@ -9,7 +9,8 @@ use Rattle.records.specs.Bounds.{textureInBounds}
 use Rattle.ranges.specs.Range.{copyExtent, arrayLayerCount}
 use Rattle.records.specs.declared.TextureSide.{TextureSide}
 use Rattle.texture_copies.specs.declared.TexturePlanned.{TexturePlanned}
-use Rattle.texture_copies.specs.Plan.{isPlaneSplit, withinCopy, rangedCopy, matchedCopy}
+use Rattle.texture_copies.specs.Copy.{isPlaneSplit}
+use Rattle.texture_copies.specs.Stages.{withinCopy, rangedCopy, matchedCopy}
 use Rattle.c_records.specs.CRecords.{textureFrom, sizeFrom}
 use Rattle.c_sides.specs.declared.SideState.{SideState}
 use Rattle.c_sides.specs.Sides.{sideState}

@@ -8,7 +8,8 @@ use Rattle.checks.specs.Checks.{pick}
 use Rattle.refusals.specs.declared.CopySide.the-variants.{Source, Destination}
 use Rattle.texture_copies.specs.declared.TexturePlanned.{TexturePlanned}
 use Rattle.texture_copies.specs.declared.TexturePlanned.the-variants as P
-use Rattle.texture_copies.specs.Plan.{textureToTexture}
+use Rattle.texture_copies.specs.Stages.{copyStaged}
+use Rattle.texture_copies.proofs.Staged.{by-law}
 use Rattle.c_sides.proofs.Sides.{good-record, record-stops, record-passes}
 use Rattle.c_textures.specs.Stages.{matched}
 use Rattle.c_textures.specs.Answer.{sideFrom}
@@ -20,20 +21,22 @@ one-texture true = refl
 one-texture false = refl
 
 returns : tie.Need-returns
-unfolding textureToTexture sideFrom
+unfolding copyStaged sideFrom
 returns c =
     let i = c .before in
     let d = i .before in
-    record-stops _ _ Source _ _ _ (d .before .side-state .ensures Source) TexturePlanned P.Refused _ _ (i .has-bad-record .ensures) (c .if1 .taken) refl
+    by-law _ _ _ _ _ _
+    (record-stops _ _ Source _ _ _ (d .before .side-state .ensures Source) TexturePlanned P.Refused _ _ (i .has-bad-record .ensures) (c .if1 .taken) refl)
 
 returns-2 : tie.Need-returns-2
-unfolding textureToTexture sideFrom
+unfolding copyStaged sideFrom
 returns-2 c =
     let j = c .before in
     let i = j .before .before in
     let d = i .before in
-    record-passes _ _ Source _ _ _ (d .before .side-state .ensures Source) TexturePlanned P.Refused _ _ (i .has-bad-record .ensures) (j .before .if1 .left)
-    (record-stops _ _ Destination _ _ _ (d .side-state2 .ensures Destination) TexturePlanned P.Refused _ _ (j .has-bad-record2 .ensures) (c .if2 .taken) refl)
+    by-law _ _ _ _ _ _
+    (record-passes _ _ Source _ _ _ (d .before .side-state .ensures Source) TexturePlanned P.Refused _ _ (i .has-bad-record .ensures) (j .before .if1 .left)
+    (record-stops _ _ Destination _ _ _ (d .side-state2 .ensures Destination) TexturePlanned P.Refused _ _ (j .has-bad-record2 .ensures) (c .if2 .taken) refl))
 
 plan-matched-requires : tie.Need-plan-matched-requires
 plan-matched-requires c κs =
@@ -48,14 +51,15 @@ plan-matched-requires c κs =
     }
 
 returns-3 : tie.Need-returns-3
-unfolding textureToTexture sideFrom matched
+unfolding copyStaged sideFrom matched
 returns-3 c =
     let j = c .before .before in
     let i = j .before .before in
     let d = i .before in
-    record-passes _ _ Source _ _ _ (d .before .side-state .ensures Source) TexturePlanned P.Refused _ _ (i .has-bad-record .ensures) (j .before .if1 .left)
+    by-law _ _ _ _ _ _
+    (record-passes _ _ Source _ _ _ (d .before .side-state .ensures Source) TexturePlanned P.Refused _ _ (i .has-bad-record .ensures) (j .before .if1 .left)
     (record-passes _ _ Destination _ _ _ (d .side-state2 .ensures Destination) TexturePlanned P.Refused _ _ (j .has-bad-record2 .ensures) (c .before .if2 .left)
-    (rw (one-texture (d .before .before .args .same-texture)) (c .plan-matched .ensures)))
+    (rw (one-texture (d .before .before .args .same-texture)) (c .plan-matched .ensures))))
 
 pub plan-known-spec : {M : Type 1} → statement M
 plan-known-spec =

@@ -5,7 +5,7 @@ use borrow.Author.Needs.{needs}
 use Rattle.refusals.specs.declared.CopySide.the-variants.{Source, Destination}
 use Rattle.texture_copies.specs.declared.TexturePlanned.{TexturePlanned}
 use Rattle.texture_copies.specs.declared.TexturePlanned.the-variants as P
-use Rattle.texture_copies.specs.Plan.{rangedCopy}
+use Rattle.texture_copies.specs.Stages.{rangedCopy}
 use Rattle.texture_copies.proofs.Rules.{layers-few}
 use Rattle.c_sides.proofs.Sides.{in-range, range-stops, range-passes}
 use Rattle.c_textures.specs.Stages.{placed, ranged}
