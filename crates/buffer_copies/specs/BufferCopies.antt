@@ -18,7 +18,6 @@ use Rattle.records.specs.declared.Device.{Device}
 use Rattle.records.specs.Bounds.{bufferChecks}
 use Rattle.init.specs.declared.MemoryInitKind.the-variants.{ImplicitlyInitialized, NeedsInitializedMemory}
 use Rattle.init.specs.Init.{bufferRange, unless}
-use Rattle.buffer_copies.specs.declared.BufferCopy.{BufferCopy}
 use Rattle.buffer_copies.specs.declared.BufferPlan.{BufferPlan}
 use Rattle.buffer_copies.specs.declared.BufferPlanned.{BufferPlanned}
 use Rattle.buffer_copies.specs.declared.BufferPlanned.the-variants as P

@@ -7,7 +7,6 @@ use native.Mathlib.Omega.{arith}
 use Rattle.measures.specs.declared.Extent3d.{Extent3d}
 use Rattle.formats.specs.declared.TextureAspect.{TextureAspect}
 use Rattle.refusals.specs.declared.CopySide.{CopySide}
-use Rattle.refusals.specs.declared.TransferError.{TransferError}
 use Rattle.records.specs.declared.Buffer.{Buffer}
 use Rattle.records.specs.declared.TexelCopyBufferLayout.{TexelCopyBufferLayout}
 use Rattle.records.specs.Bounds.{bufferInBounds}
@@ -19,7 +18,6 @@ use Rattle.linear.specs.Linear.{dataOf, linearChecked}
 use Rattle.linear.proofs.Accepted.{linear-went}
 use Rattle.rule_answers.proofs.Rules.{copied}
 use Rattle.buffer_texture_plans.specs.declared.BufferTexturePlan.{BufferTexturePlan}
-use Rattle.buffer_texture.specs.declared.BufferTexturePlanned.{BufferTexturePlanned}
 use Rattle.buffer_texture.specs.declared.BufferTexturePlanned.the-variants as P
 
 -- a plan that a function gave

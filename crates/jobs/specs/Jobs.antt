@@ -41,8 +41,8 @@ namedBuffers s bs device l =
 
 unfoldable pub buffersPlanned : List ℕ → List ℕ → Device → Line → Planned
 buffersPlanned s bs device l =
-    stop-if (past bs (wordOf l 1)) (P.Refused InvalidSheetIndex) $
-    stop-if (past bs (wordOf l 3)) (P.Refused InvalidSheetIndex) $
+    stop-if (past bs (wordOf l 1)) (P.Refused InvalidSheetIndex) $  -- 1
+    stop-if (past bs (wordOf l 3)) (P.Refused InvalidSheetIndex) $  -- 1
     namedBuffers s bs device l
 
 -- `2` or `3 buffer offset bytes rows texture level x y z aspect w h d`
@@ -53,8 +53,8 @@ namedCopy s ts bs device l =
 
 unfoldable pub copyPlanned : List ℕ → List ℕ → List ℕ → Device → Line → Planned
 copyPlanned s ts bs device l =
-    stop-if (past bs (wordOf l 1)) (P.Refused InvalidSheetIndex) $
-    stop-if (past ts (wordOf l 5)) (P.Refused InvalidSheetIndex) $
+    stop-if (past bs (wordOf l 1)) (P.Refused InvalidSheetIndex) $  -- 1
+    stop-if (past ts (wordOf l 5)) (P.Refused InvalidSheetIndex) $  -- 1
     namedCopy s ts bs device l
 
 -- `4`, then texture, level, x, y, z, aspect twice, then w h d
@@ -63,8 +63,8 @@ namedTextures s ts l = plannedTextures (wordOf l 1) (sideAt s ts l 1) (wordOf l 
 
 unfoldable pub texturesPlanned : List ℕ → List ℕ → Line → Planned
 texturesPlanned s ts l =
-    stop-if (past ts (wordOf l 1)) (P.Refused InvalidSheetIndex) $
-    stop-if (past ts (wordOf l 7)) (P.Refused InvalidSheetIndex) $
+    stop-if (past ts (wordOf l 1)) (P.Refused InvalidSheetIndex) $  -- 1
+    stop-if (past ts (wordOf l 7)) (P.Refused InvalidSheetIndex) $  -- 1
     namedTextures s ts l
 
 -- by the line's kind

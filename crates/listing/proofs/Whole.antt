@@ -19,7 +19,6 @@ use Rattle.sheet.specs.Rows.{textures, buffers, placesOf}
 use Rattle.sheet.specs.Sheet.{mostOf, sheetOf}
 use Rattle.sheet.proofs.RowLaws.{places-length}
 use Rattle.sheet.proofs.SheetProofs.{sheet-laws}
-use Rattle.lines.specs.Lines.{sheetText}
 use Rattle.listing.specs.declared.Lister.{Lister}
 use Rattle.listing.specs.declared.Listing.{Listing}
 use Rattle.listing.specs.Listing.{regionsText, noPlan, texturePlaces, bufferPlaces, deviceAt, listingFrom, listingOf, textLeft, restOf, Fills, Ends, Gives, ended, filled, Listed}

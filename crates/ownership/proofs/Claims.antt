@@ -15,7 +15,7 @@ use Rattle.buffer_texture_plans.specs.declared.CopyRanges.{CopyRanges}
 use Rattle.buffer_texture_plans.specs.declared.CopyRanges.the-variants.{Given}
 use Rattle.ownership.specs.Asking.{Gives}
 use Rattle.buffer_texture.specs.Copy.{Upload, Download, Copy}
-use Rattle.ownership.specs.Copy.{reads, depth, bytes, wide, high, row, rows, total, is2D, count, regionsOf}
+use Rattle.ownership.specs.Copy.{bufferIsRead, depth, bytes, wide, high, row, rows, total, is2D, count, regionsOf}
 use Rattle.ownership.specs.Ranges.{contiguous, touched, filled, textureRange, bufferRanges, listed}
 use Rattle.ownership.specs.Demand3.{Owned, Between, Beside, Reported, Demand3, EveryCopy}
 use Rattle.ownership.proofs.Blocks as blocks
@@ -61,23 +61,23 @@ module _ (c : Copy) (s : Sound c) (pw : 0 < c .size .width) (ph : 0 < c .size .h
   abbrev ranges : CopyRanges
   ranges = Given (textureRange c) (bufferRanges c)
 
-  touched-is : (reads (c .direction) || not (contiguous c)) ≡ true → bufferRanges c ≡ touched s₀ e₀
+  touched-is : (bufferIsRead (c .direction) || not (contiguous c)) ≡ true → bufferRanges c ≡ touched s₀ e₀
   touched-is e = rw e
 
-  filled-is : (reads (c .direction) || not (contiguous c)) ≡ false → bufferRanges c ≡ filled s₀ e₀
+  filled-is : (bufferIsRead (c .direction) || not (contiguous c)) ≡ false → bufferRanges c ≡ filled s₀ e₀
   filled-is e = rw e
 
-  padded : c .direction ≡ Download → contiguous c ≡ false → (reads (c .direction) || not (contiguous c)) ≡ true
+  padded : c .direction ≡ Download → contiguous c ≡ false → (bufferIsRead (c .direction) || not (contiguous c)) ≡ true
   padded e f = rw (f, e)
 
-  unpadded : c .direction ≡ Download → contiguous c ≡ true → (reads (c .direction) || not (contiguous c)) ≡ false
+  unpadded : c .direction ≡ Download → contiguous c ≡ true → (bufferIsRead (c .direction) || not (contiguous c)) ≡ false
   unpadded e f = rw (f, e)
 
-  implicit : (t : Bool) → (reads (c .direction) || not (contiguous c)) ≡ t → (byte : ℕ) → Reported ImplicitlyInitialized byte (listed ranges) → Owned c byte
+  implicit : (t : Bool) → (bufferIsRead (c .direction) || not (contiguous c)) ≡ t → (byte : ℕ) → Reported ImplicitlyInitialized byte (listed ranges) → Owned c byte
   implicit true e byte h = runs.never (textureRange c) s₀ e₀ byte (rw (touched-is e) at h)
   implicit false e byte h =
       let r = runs.within (textureRange c) s₀ e₀ byte (rw (filled-is e) at h) in
-      owners.full c s pw ph pd (not-false _ (neither (reads (c .direction)) _ e .1)) byte (r .0) (r .1)
+      owners.full c s pw ph pd (not-false _ (neither (bufferIsRead (c .direction)) _ e .1)) byte (r .0) (r .1)
 
   read : c .direction ≡ Upload → (byte : ℕ) → Owned c byte → Reported NeedsInitializedMemory byte (listed ranges)
   read e byte o =

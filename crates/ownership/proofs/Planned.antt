@@ -19,7 +19,7 @@ use Rattle.buffer_texture_plans.specs.declared.CopyRanges.the-variants.{Given}
 use Rattle.buffer_texture_plans.specs.Plan.{firstRegion, rangesOf, planOf}
 use Rattle.buffer_texture.specs.Copy.{Direction, Upload, Download, Copy}
 use Rattle.buffer_texture.specs.Plan as planner
-use Rattle.ownership.specs.Copy.{reads, depth, image, total, count, regionAt}
+use Rattle.ownership.specs.Copy.{bufferIsRead, depth, image, total, count, regionAt}
 use Rattle.ownership.specs.Ranges.{covers, contiguous, touched, filled, bufferRanges}
 use Rattle.ownership.specs.Ranges as R
 use Rattle.ownership.proofs.Accepted.{Checks}
@@ -37,7 +37,7 @@ planOfCopy c =
     }
 
 -- a buffer that is read is the source
-run-is : (d : Direction) (t : Bool) (s n : ℕ) → bufferInit s (planner.bufferSide d) n t ≡ cond (reads d || not t) (touched s (s + n)) (filled s (s + n))
+run-is : (d : Direction) (t : Bool) (s n : ℕ) → bufferInit s (planner.bufferSide d) n t ≡ cond (bufferIsRead d || not t) (touched s (s + n)) (filled s (s + n))
 unfolding bufferInit stop-if isSource
 run-is Upload true s n = touched-is s (s + n)
 run-is Upload false s n = touched-is s (s + n)

@@ -19,9 +19,9 @@ abbrev pub planned : Copy → BufferTexturePlanned
 planned c = plannedBy (c .direction) c
 
 -- the buffer is read: buffer to texture
-abbrev pub reads : Direction → Bool
-reads Upload = true
-reads Download = false
+abbrev pub bufferIsRead : Direction → Bool
+bufferIsRead Upload = true
+bufferIsRead Download = false
 
 -- ---- figures (module 4)
 

@@ -15,7 +15,7 @@ use Rattle.buffer_texture_plans.specs.declared.CopyRanges.{CopyRanges}
 use Rattle.buffer_texture_plans.specs.declared.CopyRanges.the-variants as N
 use Rattle.ownership.specs.Formats.{isAll}
 use Rattle.buffer_texture.specs.Copy.{Copy}
-use Rattle.ownership.specs.Copy.{reads, depth, high, dense, row, image, imageBytes, total}
+use Rattle.ownership.specs.Copy.{bufferIsRead, depth, high, dense, row, image, imageBytes, total}
 
 -- ---- the texture's range
 
@@ -44,7 +44,7 @@ textureRange c =
     record {
       «mip_level» = c .view .«mip_level»;
       layers = layers c;
-      kind = cond (reads (c .direction) && covers c) ImplicitlyInitialized NeedsInitializedMemory;
+      kind = cond (bufferIsRead (c .direction) && covers c) ImplicitlyInitialized NeedsInitializedMemory;
     }
 
 -- ---- the buffer's ranges, by words of four bytes, as the Rust has them
@@ -79,7 +79,7 @@ filled start end =
 
 abbrev pub bufferRanges : Copy → BufferInitRanges
 bufferRanges c =
-    cond (reads (c .direction) || not (contiguous c)) (touched (c .layout .offset) (c .layout .offset + total c))
+    cond (bufferIsRead (c .direction) || not (contiguous c)) (touched (c .layout .offset) (c .layout .offset + total c))
     (filled (c .layout .offset) (c .layout .offset + total c))
 
 -- ---- those that are there, in order

@@ -1,6 +1,6 @@
 -- The points, evaluated: every definition on the way from a sheet's bytes to its listing's is opened.
 -- Assumes nothing.
-use mathlib.Core.Path.{_≡_, refl, ap, _∙_}
+use mathlib.Core.Path.{_≡_, refl}
 use Rattle.checks.specs.Checks as ChecksChecks
 use Rattle.measures.specs.Measure as MeasuresMeasure
 use Rattle.flags.specs.Flags as FlagsFlags

@@ -1,7 +1,7 @@
 -- The test of a range holds exactly where the range rule goes on.
 -- Assumes nothing.
 use mathlib.Core.Path.{_≡_, refl, sym, ap, _∙_}
-use mathlib.Core.Bool.{Bool, true, false, not, _&&_}
+use mathlib.Core.Bool.{Bool, true, false, _&&_}
 use mathlib.Core.List.{List, [], _∷_, flatten}
 use Prim.Native.Nat.{ℕ, _+_, _%_, _≤_}
 use native.Mathlib.Omega.{arith}
@@ -9,7 +9,6 @@ use lib.Dec.{eqb, ltb}
 use borrow.Author.Tests.{ltb-true, leb-true, eqb-true, lt-ltb, le-leb, eq-eqb}
 use Rattle.checks.proofs.Rules.{both-true}
 use Rattle.measures.specs.declared.Extent3d.{Extent3d}
-use Rattle.measures.specs.declared.Origin3d.{Origin3d}
 use Rattle.measures.specs.Measure.{multiple}
 use Rattle.formats.specs.Sheet.{blockWidth, blockHeight}
 use Rattle.refusals.specs.declared.CopySide.{CopySide}

@@ -2,7 +2,7 @@
 use mathlib.Core.Path.{_≡_}
 use mathlib.Core.Bool.{true}
 use mathlib.Core.List.{[], flatten}
-use Prim.Native.Nat.{ℕ, _+_, _%_, _≤_, _<_}
+use Prim.Native.Nat.{_+_, _%_, _≤_, _<_}
 use Rattle.measures.specs.declared.Extent3d.{Extent3d}
 use Rattle.formats.specs.Sheet.{blockWidth, blockHeight}
 use Rattle.refusals.specs.declared.CopySide.{CopySide}

@@ -24,7 +24,7 @@ use Rattle.records.specs.declared.TexelCopyTextureInfo.{TexelCopyTextureInfo}
 use Rattle.records.specs.declared.TexelCopyBufferLayout.{TexelCopyBufferLayout}
 use Rattle.records.proofs.Bounded.{buffer-laws}
 use Rattle.ranges.specs.declared.CopyExtent.{CopyExtent}
-use Rattle.ranges.specs.Range.{copyExtent, layersOf, arrayLayerCount}
+use Rattle.ranges.specs.Range.{layersOf, arrayLayerCount}
 use Rattle.linear.specs.Linear.{stacked, imageStride, dataOf, denseOf}
 use Rattle.linear.specs.Laws.{LinearLaws}
 use Rattle.buffer_copies.specs.declared.BufferPlan.{BufferPlan}

@@ -5,7 +5,6 @@ use mathlib.Core.List.{[], _∷_}
 use lib.Dec.{eqb, ltb}
 use Rattle.checks.specs.Checks.{every}
 use Rattle.measures.specs.declared.Extent3d.{Extent3d}
-use Rattle.measures.specs.declared.Origin3d.{Origin3d}
 use Rattle.measures.specs.declared.Range.{Range}
 use Rattle.flags.specs.Flags.{meets}
 use Rattle.levels.specs.declared.TextureDimension.{TextureDimension}

@@ -8,7 +8,7 @@ use Rattle.records.specs.declared.TextureSide.{TextureSide}
 use Rattle.texture_plans.specs.declared.TexturePlan.{TexturePlan}
 use Rattle.texture_copies.specs.declared.TexturePlanned.the-variants.{Plan}
 use Rattle.texture_copies.specs.Copy as T
-use Rattle.texture_copies.specs.Copy.{BetweenTextures, between}
+use Rattle.texture_copies.specs.Copy.{between}
 use Rattle.texture_copies.specs.Plan.{textureToTexture}
 use Rattle.texture_copies.specs.Laws as L
 use Rattle.texture_copies.proofs.Accepted.{every-copy-law}

@@ -27,7 +27,7 @@ use Rattle.webgpu.specs.Formats.{Color, formats, Known, formatOf, anyDepthOrSte
 use Rattle.webgpu.specs.WebGpu.{Has, logicalSize, toBlock, physicalSubresourceSize, CopiedWhole, Reading, WithLayers, OneLayer, IsWhole, TexelCopyTexture, requiredBytesInCopy, taken, validOne, blockBytes, LinearBox, Disjoint}
 use Rattle.webgpu.specs.Agreement.{MovesWithin, SomeLayers}
 use Rattle.webgpu_copies.specs.Bounds.{BufferInBounds, TextureInBounds}
-use Rattle.webgpu_copies.specs.WholeCopies.{planned, reads, GivesPlan, StandardCopy, Compared, CopyExcepted, Rules, OutOfBounds}
+use Rattle.webgpu_copies.specs.WholeCopies.{planned, textureIsRead, GivesPlan, StandardCopy, Compared, CopyExcepted, Rules, OutOfBounds}
 use Rattle.webgpu_copies.specs.Examples.{device, buffer, extent, texture, viewAt, StandardBuffers, texel, tooWide, tooLarge, depthless, colorDepth, oneLayer, noLayer, starred, OnlyStandard, OnlyWithoutLayers, side, OntoZ1, StandardOntoZ1, OnlyPlanned, Examples}
 use Rattle.webgpu_copies.proofs.Lines.{opposite}
 use Rattle.webgpu_copies.proofs.Records.{record-bounds}
@@ -78,13 +78,13 @@ one-texel OneLayer = (refl, refl)
 absent : {n : ℕ} {C : Type 0} → Absent ≡ Given n → C
 absent e = let z : _≡_ {A = ℕ} 0 1 = cc in absurd (omega arith)
 
-both-usages : (way : Direction) → Has 12 (cond (reads way) 8 4) × Has 3 (cond (reads way) 1 2)
+both-usages : (way : Direction) → Has 12 (cond (textureIsRead way) 8 4) × Has 3 (cond (textureIsRead way) 1 2)
 both-usages Upload = (refl, refl)
 both-usages Download = (refl, refl)
 
 texel-holds :
     (reading : Reading) (way : Direction) (d : Device) (bytes format : ℕ) (size : Extent3d) (z : ℕ) (aspect : TextureAspect) (copied : Extent3d)
-    → TexelCopyTexture reading (texture format 2 size) (viewAt z aspect) copied → validOne (reads way) (taken format aspect) ≡ true
+    → TexelCopyTexture reading (texture format 2 size) (viewAt z aspect) copied → validOne (textureIsRead way) (taken format aspect) ≡ true
     → LinearBox (texture format 2 size) aspect (texel way d bytes format size z aspect copied .layout) copied bytes
     → StandardCopy reading (texel way d bytes format size z aspect copied)
 texel-holds reading way d bytes format size z aspect copied v a l =
@@ -104,7 +104,7 @@ one-row way bytes format size aspect d z copied h k e fits =
     let one : copied .height / formatOf format .blockHeight ≡ 1 = rw (h, e) in
     record { rows-given = λ m. absurd (omega (arith, one)); images-given = λ m. absurd (omega arith); row-fits = tt; image-fits = tt; inside = fits }
 
-allowed : (way : Direction) → (validOne (reads way) (taken 0 All) ≡ true) × (validOne (reads way) (taken 16 All) ≡ true) × (validOne (reads way) (taken 0 DepthOnly) ≡ true) × (validOne (reads way) (taken 15 All) ≡ true)
+allowed : (way : Direction) → (validOne (textureIsRead way) (taken 0 All) ≡ true) × (validOne (textureIsRead way) (taken 16 All) ≡ true) × (validOne (textureIsRead way) (taken 0 DepthOnly) ≡ true) × (validOne (textureIsRead way) (taken 15 All) ≡ true)
 unfolding formats formatOf anyDepthOrStencil isDepthOrStencil named taken
 allowed Upload = (refl, refl, refl, refl)
 allowed Download = (refl, refl, refl, refl)

@@ -38,7 +38,7 @@ use Rattle.webgpu.proofs.TextureRanges.{Excepted, ranges-by, no-layers-left}
 use Rattle.webgpu.proofs.Linears.{linear-rules}
 use Rattle.webgpu.proofs.BufferCopies.{or-rest, one-aspect, buffer-copies}
 use Rattle.webgpu_copies.specs.Bounds.{TextureInBounds}
-use Rattle.webgpu_copies.specs.WholeCopies.{plannedBy, planned, reads, GivesPlan, StandardCopy, Compared, DepthRestricted, AspectLacking, CopyExcepted, BufferTexture, BufferTextureWithLayers}
+use Rattle.webgpu_copies.specs.WholeCopies.{plannedBy, planned, textureIsRead, GivesPlan, StandardCopy, Compared, DepthRestricted, AspectLacking, CopyExcepted, BufferTexture, BufferTextureWithLayers}
 use Rattle.webgpu_copies.proofs.Lines.{has-of, has-by, opposite, tested}
 use Rattle.webgpu_copies.proofs.Records.{record-bounds}
 use Rattle.webgpu_copies.proofs.Buffers.{buffer-bounds}
@@ -122,23 +122,23 @@ textureSide Upload = Destination
 textureSide Download = Source
 
 -- the standard's words for the flags and the rule of formats
-buffer-has : (d : Direction) (word : ℕ) → contains word (bufferFlag d) ≡ true → Has word (cond (reads d) BUFFER-COPY-DST BUFFER-COPY-SRC)
+buffer-has : (d : Direction) (word : ℕ) → contains word (bufferFlag d) ≡ true → Has word (cond (textureIsRead d) BUFFER-COPY-DST BUFFER-COPY-SRC)
 buffer-has Upload word h = has-of word 2 h
 buffer-has Download word h = has-of word 3 h
 
-buffer-by : (d : Direction) (word : ℕ) → Has word (cond (reads d) BUFFER-COPY-DST BUFFER-COPY-SRC) → contains word (bufferFlag d) ≡ true
+buffer-by : (d : Direction) (word : ℕ) → Has word (cond (textureIsRead d) BUFFER-COPY-DST BUFFER-COPY-SRC) → contains word (bufferFlag d) ≡ true
 buffer-by Upload word h = has-by word 2 h
 buffer-by Download word h = has-by word 3 h
 
-texture-has : (d : Direction) (word : ℕ) → contains word (textureFlag d) ≡ true → Has word (cond (reads d) TEXTURE-COPY-SRC TEXTURE-COPY-DST)
+texture-has : (d : Direction) (word : ℕ) → contains word (textureFlag d) ≡ true → Has word (cond (textureIsRead d) TEXTURE-COPY-SRC TEXTURE-COPY-DST)
 texture-has Upload word h = has-of word 1 h
 texture-has Download word h = has-of word 0 h
 
-texture-by : (d : Direction) (word : ℕ) → Has word (cond (reads d) TEXTURE-COPY-SRC TEXTURE-COPY-DST) → contains word (textureFlag d) ≡ true
+texture-by : (d : Direction) (word : ℕ) → Has word (cond (textureIsRead d) TEXTURE-COPY-SRC TEXTURE-COPY-DST) → contains word (textureFlag d) ≡ true
 texture-by Upload word h = has-by word 1 h
 texture-by Download word h = has-by word 0 h
 
-rule-is : (d : Direction) (format : ℕ) (aspect : TextureAspect) → formatRule (reads d) format aspect ≡ checked (formatChecks d format aspect)
+rule-is : (d : Direction) (format : ℕ) (aspect : TextureAspect) → formatRule (textureIsRead d) format aspect ≡ checked (formatChecks d format aspect)
 rule-is Upload format aspect = refl
 rule-is Download format aspect = refl
 
@@ -185,14 +185,14 @@ module _ (reading : Reading) (c : Copy) (r : Compared c) (kept : CopyExcepted c 
         buffer-usage = buffer-has way (c .buffer .usage .0) (p .buffer-usage);
         texture-usage = texture-has way (c .texture .usage .0) (p .texture-usage);
         view-valid = view;
-        suits = buffer-copies (reads way) true (c .texture) a (c .layout) suited .0 (format, suits);
+        suits = buffer-copies (textureIsRead way) true (c .texture) a (c .layout) suited .0 (format, suits);
         linear = linear-rule view .holds _ (linear-goes (c .layout) f a (c .buffer .size) (bufferSide way) (c .size) (small (c .buffer) in-buffer) (p .linear)) .0;
       }
 
   accepted-of : StandardCopy reading c → Accepted c
   accepted-of v =
-      let rules = buffer-copies (reads way) true (c .texture) a (c .layout) suited .1 (v .suits) in
-      let one = one-aspect (reads way) true (c .texture) a (c .layout) suited (v .suits) in
+      let rules = buffer-copies (textureIsRead way) true (c .texture) a (c .layout) suited .1 (v .suits) in
+      let one = one-aspect (textureIsRead way) true (c .texture) a (c .layout) suited (v .suits) in
       let g = ranges .1 (v .view-valid) in
       let l = linear-rule (v .view-valid) .goes-on (v .linear) in
       record {

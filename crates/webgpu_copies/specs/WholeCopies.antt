@@ -64,15 +64,15 @@ abbrev pub planned : Copy → BufferTexturePlanned
 planned c = plannedBy (c .direction) c
 
 -- the texture is read: texture to buffer
-abbrev pub reads : Direction → Bool
-reads Upload = false
-reads Download = true
+abbrev pub textureIsRead : Direction → Bool
+textureIsRead Upload = false
+textureIsRead Download = true
 
 abbrev pub GivesPlan : BufferTexturePlanned → Type 0
 GivesPlan r = (p : BufferTexturePlan) × (r ≡ T.Plan p)
 
 abbrev pub StandardCopy : W.Reading → Copy → Type 0
-StandardCopy reading c = W.CopyBufferTexture reading (reads (c .direction)) (c .buffer) (c .layout) (c .texture) (c .view) (c .size)
+StandardCopy reading c = W.CopyBufferTexture reading (textureIsRead (c .direction)) (c .buffer) (c .layout) (c .texture) (c .view) (c .size)
 
 -- what is compared: formats of the standard, and figures as their 32-bit fields hold them
 pub record Compared (c : Copy) : Type 0 where

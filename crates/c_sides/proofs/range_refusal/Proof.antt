@@ -1,6 +1,5 @@
 -- `range_refusal` meets its contract.
 -- Assumes nothing.
-use mathlib.Core.Path.{sym, _∙_}
 use borrow.Author.Needs.{needs}
 use Rattle.c_sides.proofs.range_refusal.Statement.{statement}
 use Rattle.c_sides.proofs.range_refusal.Tie as tie

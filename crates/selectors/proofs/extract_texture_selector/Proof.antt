@@ -1,14 +1,12 @@
 -- `extract_texture_selector` meets its contract.
 -- Assumes nothing.
-use mathlib.Core.Path.{_≡_, refl, sym, ap, _∙_}
-use Prim.Native.Nat.{ℕ}
-use lib.Dec.{eqb}
+use mathlib.Core.Path.{refl, sym, _∙_}
 use borrow.Author.Needs.{needs}
 use borrow.Author.Tests.{eq-eqb, ne-eqb}
 use Rattle.refusals.specs.Order.{decided}
 use Rattle.refusals.proofs.Order.{test-stops, test-passes}
 use Rattle.selectors.specs.declared.SelectorChecked.{SelectorChecked}
-use Rattle.selectors.specs.declared.SelectorChecked.the-variants.{GoOn, Refused}
+use Rattle.selectors.specs.declared.SelectorChecked.the-variants.{Refused}
 use Rattle.selectors.specs.Selector.{selectorChecks, selectorChecked}
 use Rattle.selectors.proofs.extract_texture_selector.Statement.{statement}
 use Rattle.selectors.proofs.extract_texture_selector.Tie as tie
