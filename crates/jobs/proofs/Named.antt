@@ -10,13 +10,14 @@ use Rattle.measures.specs.declared.OptionU64.{OptionU64}
 use Rattle.records.specs.declared.Buffer.{Buffer}
 use Rattle.records.specs.declared.Device.{Device}
 use Rattle.records.specs.declared.Texture.{Texture}
+use Rattle.records.specs.declared.TextureSide.{TextureSide}
 use Rattle.records.specs.declared.TexelCopyTextureInfo.{TexelCopyTextureInfo}
 use Rattle.records.specs.declared.TexelCopyBufferLayout.{TexelCopyBufferLayout}
 use Rattle.requests.specs.declared.Planned.{Planned}
-use Rattle.requests.specs.Requests.{plannedBuffers, plannedUpload, plannedDownload}
+use Rattle.requests.specs.Requests.{plannedBuffers, plannedUpload, plannedDownload, plannedTextures}
 use Rattle.fields.specs.declared.Line.{Line}
 use Rattle.job_records.specs.Records.{valueOf, wordOf, sizeOf, extentOf, viewOf, layoutOf}
-use Rattle.jobs.specs.Jobs.{textureAt, bufferAt, namedBuffers, namedCopy, buffersPlanned, copyPlanned, texturesPlanned, linePlanned}
+use Rattle.jobs.specs.Jobs.{textureAt, bufferAt, sideAt, namedBuffers, namedCopy, namedTextures, buffersPlanned, copyPlanned, texturesPlanned, linePlanned}
 
 pub named-buffers :
     (s bs : List ℕ) (device : Device) (l : Line) (i j from to : ℕ) (src dst : Buffer) (size : OptionU64)
@@ -35,6 +36,13 @@ module _ (s ts bs : List ℕ) (device : Device) (l : Line) {i j kind : ℕ} {b :
   pub named-download : (kind ≡ 2 → ⊥) → plannedDownload device j t view i b layout size ≡ namedCopy s ts bs device l
   unfolding namedCopy
   named-download e = rw (← is, ne-eqb kind 2 e, hb, ht, hl, hv, hn, hi, hj)
+
+pub named-textures :
+    (s ts : List ℕ) (l : Line) (i j : ℕ) (src dst : TextureSide) (size : Extent3d)
+    → i ≡ wordOf l 1 → src ≡ sideAt s ts l 1 → j ≡ wordOf l 7 → dst ≡ sideAt s ts l 7 → size ≡ extentOf l 13
+    → plannedTextures i src j dst size ≡ namedTextures s ts l
+unfolding namedTextures
+named-textures s ts l i j src dst size hi hs hj hd hn = rw (hi, hs, hj, hd, hn)
 
 -- by the line's kind
 module _ (s ts bs : List ℕ) (device : Device) (l : Line) (kind : ℕ) (is : kind ≡ valueOf l 0) (r : Planned) where

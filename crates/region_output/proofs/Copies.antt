@@ -41,12 +41,15 @@ use Rattle.buffer_texture.specs.Plan.{dense, planFor, planned, bufferToTexture,
 use Rattle.buffer_texture.specs.Laws.{Accepted}
 use Rattle.buffer_texture.proofs.Accepted.{every-copy-law as copies-law, as-uploaded, as-downloaded}
 use Rattle.records.specs.declared.TextureSide.{TextureSide}
+use Rattle.texture_plans.specs.declared.TexturePlan.{TexturePlan}
 use Rattle.texture_plans.specs.Plan as X
 use Rattle.texture_copies.specs.declared.TexturePlanned.{TexturePlanned}
 use Rattle.texture_copies.specs.declared.TexturePlanned.the-variants as T
+use Rattle.texture_copies.specs.Copy as Y
 use Rattle.texture_copies.specs.Plan.{textureToTexture}
+use Rattle.texture_copies.proofs.Accepted.{every-copy-law as textures-law}
 use Rattle.region_output.specs.Asking.{buffers}
-use Rattle.region_output.specs.Numbers.{optional, place, sides, numbers}
+use Rattle.region_output.specs.Numbers.{optional, sides, numbers}
 use Rattle.region_output.proofs.Kept.{Small, FitBufferTexture, FitTextures}
 use Rattle.region_output.proofs.Accepted.{Figures, base-small, extent-small}
 
@@ -148,35 +151,24 @@ unfoldable pub TexturesFit : TexturePlanned → Type 0
 TexturesFit (T.Plan p) = FitTextures p
 TexturesFit (T.Refused e) = Unit {0}
 
-no-textures : (e : TransferError) → TexturesFit (T.Refused e)
+textures-by : (r : TexturePlanned) → ((p : TexturePlan) → r ≡ T.Plan p → FitTextures p) → TexturesFit r
 unfolding TexturesFit
-no-textures e = tt
-
-textures-line : (t : Bool) (e : TransferError) (rest : TexturePlanned) → (t ≡ false → TexturesFit rest) → TexturesFit (stop-if t (T.Refused e) rest)
-textures-line = past TexturesFit T.Refused no-textures
-
-textures-rule : (m : Checked) (rest : TexturePlanned) → (m ≡ C.GoOn → TexturesFit rest) → TexturesFit (after m T.Refused rest)
-textures-rule = passed TexturesFit T.Refused no-textures
+textures-by (T.Plan p) h = h p refl
+textures-by (T.Refused e) h = tt
 
 lesser-small : (a b : CopyExtent) → Small (sides a) → Small (sides (X.lesser a b))
 unfolding X.lesser
 lesser-small a b h =
     (omega (arith, min-le-left (a .width) (b .width), h .0), (omega (arith, min-le-left (a .height) (b .height), h .1 .0), (omega (arith, min-le-left (a .depth) (b .depth), h .1 .1 .0), tt)))
 
-textures-plan :
-    (src dst : TextureSide) (size : Extent3d) (v w : CopyExtent) (n : ℕ) (from to : TextureCopyBase) → Small (place from) → Small (place to) → Small (sides v)
-    → TexturesFit (T.Plan (X.planOf src dst size v w n from to))
-unfolding TexturesFit X.planOf
-textures-plan src dst size v w n from to f t s = record { src = f; dst = t; size = lesser-small v w s }
-
 pub textures-fit : (i : ℕ) (src : TextureSide) (j : ℕ) (dst : TextureSide) (size : Extent3d) → Figures (src .view) size → Figures (dst .view) size → TexturesFit (textureToTexture i src j dst size)
-unfolding textureToTexture rangedCopy selectedCopy usable
+unfolding Y.planFor X.planOf
 textures-fit i src j dst size f g =
-    textures-rule _ _ λ from. textures-rule _ _ λ to. textures-line _ _ _ λ formats.
-    ranged TexturesFit T.Refused no-textures _ _ λ v n range. ranged TexturesFit T.Refused no-textures _ _ λ w m range′.
-    textures-rule _ _ λ plane. textures-rule _ _ λ within.
-    selected TexturesFit T.Refused no-textures _ _ λ s base chosen. selected TexturesFit T.Refused no-textures _ _ λ s′ base′ chosen′.
-    textures-line _ _ _ λ all. textures-line _ _ _ λ all′. textures-line _ _ _ λ samples. textures-line _ _ _ λ reads. textures-line _ _ _ λ writes.
-    let r = every-range (src .view) (src .texture) Source size .went-on v n range in
-    textures-plan src dst size v w n base base′ (base-small (src .view) (src .texture) size f s base chosen) (base-small (dst .view) (dst .texture) size g s′ base′ chosen′)
-    (rw (← r .1) (extent-small (src .view) (src .texture) size f))
+    textures-by (textureToTexture i src j dst size) λ p e.
+    let a = textures-law (Y.between i src j dst size) .is-accepted p e in
+    rw (← a .1)
+    (record {
+      src = base-small (src .view) (src .texture) size f;
+      dst = base-small (dst .view) (dst .texture) size g;
+      size = lesser-small _ _ (extent-small (src .view) (src .texture) size f);
+    })

@@ -1,6 +1,6 @@
 -- `plan_textures` meets its contract.
 -- Assumes nothing.
-use Rattle.refusals.proofs.Answers.{handed}
+use Rattle.checks.proofs.Rules.{flag-lines}
 use Rattle.jobs.specs.Jobs.{texturesPlanned}
 use borrow.Author.Needs.{needs}
 use Rattle.jobs.proofs.plan_textures.Statement.{statement}
@@ -10,4 +10,4 @@ pub plan-textures-spec : {M : Type 1} → statement M
 unfolding texturesPlanned
 plan-textures-spec =
     tie.close
-    (tie.spec (λ c κs. search needs) (λ c. search handed depth 10) (λ c κs. search needs) (λ c. search handed depth 10) (λ c κs. search needs) (λ c. search handed depth 10))
+    (tie.spec (λ c κs. search needs) (λ c. search flag-lines depth 10) (λ c κs. search needs) (λ c. search flag-lines depth 10) (λ c κs. search needs) (λ c. search flag-lines depth 10))
