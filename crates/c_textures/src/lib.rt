@@ -1,16 +1,11 @@
 // Copies between textures, for callers in C and Rust. A crate of its own, so that its archive holds one copy function, into
 // which the compiler puts every rule.
 ghost use mathlib.Core.Path.{_≡_};
-ghost use Prim.Native.Nat.{_<_, _^_};
-ghost use Rattle.ranges.specs.Range.{arrayLayerCount};
+ghost use Rattle.checks.specs.Checks.{pick};
 ghost use Rattle.words.specs.Words.{texturesNumber, texturesPlan, texturesRanges};
 ghost use Rattle.c_textures.specs.Answer.{sideFrom, known, answer};
-ghost use Rattle.c_textures.specs.Stages.{Looked, placed, ranged, matched};
-use c_sides::SideState;
 use formats::TextureAspect;
-use measures::Extent3d;
 use records::TextureSide;
-use refusals::CopySide;
 use refusals::TransferError;
 use texture_copies::TexturePlanned;
 
@@ -37,93 +32,13 @@ fn no_aspect(format: u32) -> TexturePlanned
     })
 }
 
-fn plan_placed(
-    same_texture: bool,
-    split: bool,
-    src: TextureSide,
-    dst: TextureSide,
-    size: Extent3d,
-) -> TexturePlanned
-    requires { ⌜ arrayLayerCount (src .texture) size < 2 ^ 16 ⌝ }
-    ensures { λ r. ⌜ r ≡ placed «same_texture» split src dst size ⌝ }
+// The source is texture 0.
+fn dst_index(same_texture: bool) -> u32
+    ensures { λ r. ⌜ r ≡ pick «same_texture» 0 1 ⌝ }
 {
-    let src_texture = src.texture;
-    let dst_texture = dst.texture;
-    texture_copies::place_copy(
-        same_texture,
-        split,
-        src,
-        dst,
-        size,
-        ranges::copy_extent(src_texture, size),
-        ranges::copy_extent(dst_texture, size),
-        ranges::array_layer_count(src_texture, size),
-    )
+    if same_texture { 0 } else { 1 }
 }
 
-fn plan_ranged(
-    same_texture: bool,
-    split: bool,
-    src: &[u32; 8],
-    src_view: &[u32; 5],
-    dst: &[u32; 8],
-    dst_view: &[u32; 5],
-    size: &[u32; 3],
-    src_state: SideState,
-    dst_state: SideState,
-) -> TexturePlanned
-    requires { ⌜ Looked «src_state» «dst_state» (now src) (now «src_view») (now dst) (now «dst_view») (now size) ⌝ }
-    ensures { λ r. ⌜ r ≡ ranged «same_texture» split (now (src .entry)) (now («src_view» .entry)) (now (dst .entry)) (now («dst_view» .entry)) (now (size .entry)) ⌝ }
-{
-    if c_sides::is_out_of_range(src_state) {
-        let why = c_sides::range_refusal(src, src_view, CopySide::Source, size);
-        return TexturePlanned::Refused(why);
-    }
-    if c_sides::is_out_of_range(dst_state) {
-        let why = c_sides::range_refusal(dst, dst_view, CopySide::Destination, size);
-        return TexturePlanned::Refused(why);
-    }
-    let from = side_from(src, src_view);
-    let to = side_from(dst, dst_view);
-    plan_placed(same_texture, split, from, to, c_records::size_from(size))
-}
-
-fn plan_matched(
-    same_texture: bool,
-    src: &[u32; 8],
-    src_view: &[u32; 5],
-    dst: &[u32; 8],
-    dst_view: &[u32; 5],
-    size: &[u32; 3],
-    src_state: SideState,
-    dst_state: SideState,
-) -> TexturePlanned
-    requires { ⌜ Looked «src_state» «dst_state» (now src) (now «src_view») (now dst) (now «dst_view») (now size) ⌝ }
-    ensures { λ r. ⌜ r ≡ matched «same_texture» (now (src .entry)) (now («src_view» .entry)) (now (dst .entry)) (now («dst_view» .entry)) (now (size .entry)) ⌝ }
-{
-    let from = side_from(src, src_view);
-    let to = side_from(dst, dst_view);
-    let split = texture_copies::is_plane_split(from, to);
-    if texture_copies::is_incompatible(split, from, to) {
-        return TexturePlanned::Refused(TransferError::TextureFormatsNotCopyCompatible {
-            src_format: src[0],
-            dst_format: dst[0],
-        });
-    }
-    plan_ranged(
-        same_texture,
-        split,
-        src,
-        src_view,
-        dst,
-        dst_view,
-        size,
-        src_state,
-        dst_state,
-    )
-}
-
-// Both sides are looked at before anything is refused: neither waits for the other.
 fn plan_known(
     same_texture: bool,
     src: &[u32; 8],
@@ -134,27 +49,14 @@ fn plan_known(
 ) -> TexturePlanned
     ensures { λ r. ⌜ r ≡ known «same_texture» (now (src .entry)) (now («src_view» .entry)) (now (dst .entry)) (now («dst_view» .entry)) (now (size .entry)) ⌝ }
 {
-    let src_state = c_sides::side_state(src, src_view, size);
-    let dst_state = c_sides::side_state(dst, dst_view, size);
-    if c_sides::has_bad_record(src_state) {
-        return TexturePlanned::Refused(TransferError::InvalidTextureRecord {
-            side: CopySide::Source,
-        });
-    }
-    if c_sides::has_bad_record(dst_state) {
-        return TexturePlanned::Refused(TransferError::InvalidTextureRecord {
-            side: CopySide::Destination,
-        });
-    }
-    plan_matched(
-        same_texture,
-        src,
-        src_view,
-        dst,
-        dst_view,
-        size,
-        src_state,
-        dst_state,
+    let from = side_from(src, src_view);
+    let to = side_from(dst, dst_view);
+    texture_copies::copy_texture_to_texture(
+        0,
+        from,
+        dst_index(same_texture),
+        to,
+        c_records::size_from(size),
     )
 }
 

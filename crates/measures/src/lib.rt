@@ -36,8 +36,7 @@ impl Texels {
         if size == 1 {
             return self;
         }
-        let blocks = self.in_blocks(size);
-        Texels(blocks.0 * size)
+        Texels((self.0 + (size - 1)) / size * size)
     }
 }
 

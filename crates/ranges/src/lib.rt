@@ -304,20 +304,19 @@ fn sides_fit(exact: bool, o: Origin3d, size: Extent3d, extent: Extent3d) -> bool
     )
 }
 
+// In one test, so that the whole is small enough for the compiler to put in line on both sides of a copy.
 fn blocks_fit(o: Origin3d, size: Extent3d, block_width: u32, block_height: u32) -> bool
     requires { ⌜ (0 < «block_width») × (0 < «block_height») ⌝ }
     ensures { λ r. ⌜ r ≡ blocksFit o size «block_width» «block_height» ⌝ }
 {
-    if !measures::is_multiple_of(o.x, block_width) {
-        return false;
-    }
-    if !measures::is_multiple_of(o.y, block_height) {
-        return false;
-    }
-    if !measures::is_multiple_of(size.width, block_width) {
-        return false;
-    }
-    measures::is_multiple_of(size.height, block_height)
+    checks::both(
+        measures::is_multiple_of(o.x, block_width),
+        checks::all_three(
+            measures::is_multiple_of(o.y, block_height),
+            measures::is_multiple_of(size.width, block_width),
+            measures::is_multiple_of(size.height, block_height),
+        ),
+    )
 }
 
 fn extent_fits(view: TexelCopyTextureInfo, t: Texture, size: Extent3d) -> bool

@@ -1,7 +1,7 @@
 -- The bounds of the buffer and texture records.
 use Prim.Native.Nat.{ℕ, max}
 use mathlib.Core.Bool.{Bool, true, not, _&&_, _||_}
-use mathlib.Core.List.{[], _∷_}
+use mathlib.Core.List.{[], _∷_, flatten}
 use lib.Dec.{eqb, leb}
 use Rattle.checks.specs.Checks.{every}
 use Rattle.measures.specs.declared.Extent3d.{Extent3d}
@@ -11,6 +11,7 @@ use Rattle.levels.specs.declared.TextureDimension.the-variants.{D1, D2, D3}
 use Rattle.levels.specs.Level.{dimensionOf, maxMipLevels}
 use Rattle.formats.specs.Sheet.{isFormat, isMultiPlanar, blockWidth, blockHeight}
 use Rattle.refusals.specs.declared.CopySide.{CopySide}
+use Rattle.refusals.specs.declared.CopySide.the-variants.{Source, Destination}
 use Rattle.refusals.specs.declared.TransferError.the-variants.{InvalidBufferRecord, InvalidTextureRecord}
 use Rattle.refusals.specs.Order.{Checks, refuse-if}
 use Rattle.records.specs.declared.Buffer.{Buffer}
@@ -98,3 +99,7 @@ bufferChecks b side = refuse-if (not (bufferInBounds b)) (InvalidBufferRecord si
 
 unfoldable pub textureChecks : Texture → CopySide → Checks
 textureChecks t side = refuse-if (not (textureInBounds t)) (InvalidTextureRecord side) ∷ []  -- 2
+
+-- those of a copy between textures
+unfoldable pub bothTextureChecks : Texture → Texture → Checks
+bothTextureChecks src dst = flatten (textureChecks src Source) ∷ flatten (textureChecks dst Destination) ∷ []

@@ -1,10 +1,10 @@
 // The records of a copy, their bounds, and the extents of a texture's level.
 ghost use mathlib.Core.Path.{_≡_};
-ghost use mathlib.Core.Bool.{true};
+ghost use mathlib.Core.Bool.{true, _&&_};
 ghost use Prim.Native.Nat.{max};
 ghost use Rattle.levels.specs.Level.{dimensionOf};
 ghost use Rattle.refusals.specs.Order.{checked};
-ghost use Rattle.records.specs.Bounds.{within, bufferInBounds, sizeInBounds, mipSide, levelsInBounds, mayBeMultisampled, fourSamples, samplesInBounds, dimensionSuits, sidesWhole, evenSides, planesSuit, fieldsInBounds, formatSuits, textureInBounds, bufferChecks, textureChecks};
+ghost use Rattle.records.specs.Bounds.{within, bufferInBounds, sizeInBounds, mipSide, levelsInBounds, mayBeMultisampled, fourSamples, samplesInBounds, dimensionSuits, sidesWhole, evenSides, planesSuit, fieldsInBounds, formatSuits, textureInBounds, bufferChecks, textureChecks, bothTextureChecks};
 ghost use Rattle.records.specs.Extents.{logicalExtent, physicalExtent};
 ghost use Rattle.records.specs.Laws.{RecordLaws};
 use flags::BufferUsages;
@@ -245,16 +245,23 @@ fn format_suits(t: Texture) -> bool
     planes_suit(t)
 }
 
-pub fn texture_in_bounds(t: Texture) -> bool
+// What the fields ask of each other.
+fn fields_agree(t: Texture) -> bool
+    ensures { λ r. ⌜ r ≡ (samplesInBounds t && formatSuits t) ⌝ }
+{
+    if !samples_in_bounds(t) {
+        return false;
+    }
+    format_suits(t)
+}
+
+fn texture_in_bounds(t: Texture) -> bool
     ensures { λ r. ⌜ r ≡ textureInBounds t ⌝ }
 {
     if !fields_in_bounds(t) {
         return false;
     }
-    if !samples_in_bounds(t) {
-        return false;
-    }
-    format_suits(t)
+    fields_agree(t)
 }
 
 // 3 where a buffer's record is out of its bounds.
@@ -267,12 +274,38 @@ pub fn check_buffer(b: Buffer, side: CopySide) -> Checked
     Checked::GoOn
 }
 
+fn bad_texture(side: CopySide) -> Checked
+    ensures { λ r. ⌜ r ≡ Checked.Refused (TransferError.InvalidTextureRecord side) ⌝ }
+{
+    Checked::Refused(TransferError::InvalidTextureRecord { side })
+}
+
 // 2 where a texture's record is out of its bounds.
 pub fn check_texture(t: Texture, side: CopySide) -> Checked
     ensures { λ r. ⌜ r ≡ checked (textureChecks t side) ⌝ }
 {
     if !texture_in_bounds(t) {
-        return Checked::Refused(TransferError::InvalidTextureRecord { side });
+        return bad_texture(side);
+    }
+    Checked::GoOn
+}
+
+// 2 where the source's record is out of its bounds, then where the destination's is. Both are written out, since the compiler puts the two
+// halves of the test in line where they are called twice, and would leave the whole of it a call, for which a record has to be stored.
+pub fn check_textures(src: Texture, dst: Texture) -> Checked
+    ensures { λ r. ⌜ r ≡ checked (bothTextureChecks src dst) ⌝ }
+{
+    if !fields_in_bounds(src) {
+        return bad_texture(CopySide::Source);
+    }
+    if !fields_agree(src) {
+        return bad_texture(CopySide::Source);
+    }
+    if !fields_in_bounds(dst) {
+        return bad_texture(CopySide::Destination);
+    }
+    if !fields_agree(dst) {
+        return bad_texture(CopySide::Destination);
     }
     Checked::GoOn
 }

@@ -1,5 +1,5 @@
--- The same answer as the functions between the first check and the last give it. Only the contracts of private functions, and of `place_copy`,
--- cite this: no caller of `copy_texture_to_texture` need read it.
+-- The same answer as the functions between the first check and the last give it. Only the contracts of private functions cite this: no caller
+-- need read it.
 use Prim.Native.Nat.{ℕ}
 use mathlib.Core.Bool.{Bool, false, _&&_, not}
 use mathlib.Core.List.{[], _∷_, flatten}
@@ -13,9 +13,9 @@ use Rattle.refusals.specs.declared.CopySide.the-variants.{Source, Destination}
 use Rattle.refusals.specs.declared.TextureErrorDimension.the-variants.{X, Y}
 use Rattle.refusals.specs.declared.TransferError.the-variants as E
 use Rattle.refusals.specs.Order.{Checks, checked}
-use Rattle.records.specs.Bounds.{textureChecks}
+use Rattle.records.specs.Bounds.{bothTextureChecks}
 use Rattle.ranges.specs.declared.CopyExtent.{CopyExtent}
-use Rattle.ranges.specs.Range.{subjectOf, dimensionChecks, rangeChecked}
+use Rattle.ranges.specs.Range.{subjectOf, dimensionChecks, copyExtent, arrayLayerCount, rangeChecked}
 use Rattle.selectors.specs.declared.TextureCopyBase.{TextureCopyBase}
 use Rattle.selectors.specs.Selector.{selectorChecked, sameTextureChecks}
 use Rattle.rule_answers.specs.Stages.{after, after-range, after-selector}
@@ -65,6 +65,11 @@ withinCopy same split src dst size srcExtent dstExtent layers =
     after (checked (withinOne same src dst layers)) P.Refused $
     selectedCopy split src dst size srcExtent dstExtent layers
 
+-- the same behind the ranges
+unfoldable pub placedCopy : Bool → Bool → TextureSide → TextureSide → Extent3d → TexturePlanned
+placedCopy same split src dst size =
+    withinCopy same split src dst size (copyExtent (src .texture) size) (copyExtent (dst .texture) size) (arrayLayerCount (src .texture) size)
+
 -- module 3 source, destination
 unfoldable pub rangedCopy : Bool → Bool → TextureSide → TextureSide → Extent3d → TexturePlanned
 rangedCopy same split src dst size =
@@ -81,6 +86,5 @@ matchedCopy same split src dst size =
 -- records: 2 source, 2 destination
 unfoldable pub copyStaged : ℕ → TextureSide → ℕ → TextureSide → Extent3d → TexturePlanned
 copyStaged i src j dst size =
-    after (checked (textureChecks (src .texture) Source)) P.Refused $
-    after (checked (textureChecks (dst .texture) Destination)) P.Refused $
+    after (checked (bothTextureChecks (src .texture) (dst .texture))) P.Refused $
     matchedCopy (eqb i j) (isPlaneSplit src dst) src dst size

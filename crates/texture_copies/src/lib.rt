@@ -6,13 +6,14 @@ ghost use lib.Dec.{eqb};
 ghost use Rattle.formats.specs.Sheet.{aspectsOf};
 ghost use Rattle.formats.specs.Aspects.{subsamplingFactor};
 ghost use Rattle.refusals.specs.Order.{checked};
-ghost use Rattle.ranges.specs.Range.{subjectOf, dimensionChecks, rangeChecked};
+ghost use Rattle.ranges.specs.Range.{subjectOf, dimensionChecks, arrayLayerCount, rangeChecked, goesOn};
 ghost use Rattle.selectors.specs.Selector.{selectorChecked, sameTextureChecks};
-ghost use Rattle.records.specs.Bounds.{textureInBounds, textureChecks};
+ghost use Rattle.records.specs.Bounds.{textureInBounds};
+ghost use Rattle.rule_answers.specs.Answers.{HandsUp};
 ghost use Rattle.texture_copies.specs.Copy.{isThis, isPlaneSplit, formatsDiffer, planeWidth, planeHeight};
 ghost use Rattle.texture_copies.specs.Plan.{planeChecks, textureToTexture};
 ghost use Rattle.texture_copies.specs.Laws.{EveryCopyLaw};
-ghost use Rattle.texture_copies.specs.Stages.{planeSides, withinPlane, withinOne, usable, selectedCopy, withinCopy, rangedCopy, matchedCopy};
+ghost use Rattle.texture_copies.specs.Stages.{planeSides, withinPlane, withinOne, usable, selectedCopy, withinCopy, placedCopy, rangedCopy, matchedCopy};
 use flags::TextureUsages;
 use formats::TextureAspect;
 use measures::Extent3d;
@@ -20,6 +21,7 @@ use measures::OptionU32;
 use ranges::CopyExtent;
 use ranges::RangeChecked;
 use ranges::Subject;
+use records::TexelCopyTextureInfo;
 use records::Texture;
 use records::TextureSide;
 use refusals::Checked;
@@ -44,7 +46,7 @@ fn is_this(value: OptionU32, n: u32) -> bool
     }
 }
 
-pub fn is_plane_split(src: TextureSide, dst: TextureSide) -> bool
+fn is_plane_split(src: TextureSide, dst: TextureSide) -> bool
     ensures { λ r. ⌜ r ≡ isPlaneSplit src dst ⌝ }
 {
     let src_texture = src.texture;
@@ -73,7 +75,7 @@ fn formats_differ(src: TextureSide, dst: TextureSide) -> bool
         != formats::remove_srgb_suffix(dst_texture.format)
 }
 
-pub fn is_incompatible(split: bool, src: TextureSide, dst: TextureSide) -> bool
+fn is_incompatible(split: bool, src: TextureSide, dst: TextureSide) -> bool
     ensures { λ r. ⌜ r ≡ (formatsDiffer src dst && not split) ⌝ }
 {
     checks::both(formats_differ(src, dst), !split)
@@ -284,16 +286,7 @@ fn select_copy(
     )
 }
 
-fn range_side(side: TextureSide, of: CopySide, size: Extent3d) -> RangeChecked
-    requires { ⌜ textureInBounds (side .texture) ≡ true ⌝ }
-    ensures { λ r. ⌜ r ≡ rangeChecked (side .view) (side .texture) of size ⌝ }
-{
-    let view = side.view;
-    let texture = side.texture;
-    ranges::validate_texture_copy_range(view, texture, of, size)
-}
-
-pub fn place_copy(
+fn place_copy(
     same: bool,
     split: bool,
     src: TextureSide,
@@ -317,6 +310,54 @@ pub fn place_copy(
     select_copy(split, src, dst, size, src_extent, dst_extent, layers)
 }
 
+fn place_sides(
+    same: bool,
+    split: bool,
+    src: TextureSide,
+    dst: TextureSide,
+    size: Extent3d,
+) -> TexturePlanned
+    requires { ⌜ arrayLayerCount (src .texture) size < 2 ^ 16 ⌝ }
+    ensures { λ r. ⌜ r ≡ placedCopy same split src dst size ⌝ }
+{
+    let src_texture = src.texture;
+    let dst_texture = dst.texture;
+    place_copy(
+        same,
+        split,
+        src,
+        dst,
+        size,
+        ranges::copy_extent(src_texture, size),
+        ranges::copy_extent(dst_texture, size),
+        ranges::array_layer_count(src_texture, size),
+    )
+}
+
+fn is_in_range(side: TextureSide, size: Extent3d) -> bool
+    requires { ⌜ textureInBounds (side .texture) ≡ true ⌝ }
+    ensures { λ r. ⌜ ((of : CopySide) → r ≡ goesOn (rangeChecked (side .view) (side .texture) of size)) ⌝ }
+{
+    let view = side.view;
+    let texture = side.texture;
+    ranges::is_in_range(view, texture, size)
+}
+
+// Why a side that is out of range is refused.
+fn range_refusal(
+    view: TexelCopyTextureInfo,
+    texture: Texture,
+    of: CopySide,
+    size: Extent3d,
+) -> TransferError
+    requires { ⌜ textureInBounds texture ≡ true ⌝ }
+    ensures { λ r. ⌜ HandsUp RangeChecked.Refused (rangeChecked view texture of size) r ⌝ }
+{
+    rule_answers::range_why(ranges::validate_texture_copy_range(view, texture, of, size))
+}
+
+// Each side is tested, and its refusal made only where the test fails: the test is in line, and of the refusal, which is not, an accepted
+// copy stores nothing.
 fn range_copy(
     same: bool,
     split: bool,
@@ -327,22 +368,17 @@ fn range_copy(
     requires { ⌜ (textureInBounds (src .texture) ≡ true) × (textureInBounds (dst .texture) ≡ true) ⌝ }
     ensures { λ r. ⌜ r ≡ rangedCopy same split src dst size ⌝ }
 {
-    let from = range_side(src, CopySide::Source, size);
-    let RangeChecked::GoOn(src_extent, layers) = from else {
-        return TexturePlanned::Refused(rule_answers::range_why(from));
-    };
-    let to = range_side(dst, CopySide::Destination, size);
-    let RangeChecked::GoOn(dst_extent, _) = to else {
-        return TexturePlanned::Refused(rule_answers::range_why(to));
-    };
-    place_copy(same, split, src, dst, size, src_extent, dst_extent, layers)
-}
-
-fn check_side(side: TextureSide, of: CopySide) -> Checked
-    ensures { λ r. ⌜ r ≡ checked (textureChecks (side .texture) of) ⌝ }
-{
-    let texture = side.texture;
-    records::check_texture(texture, of)
+    if !is_in_range(src, size) {
+        let view = src.view;
+        let texture = src.texture;
+        return TexturePlanned::Refused(range_refusal(view, texture, CopySide::Source, size));
+    }
+    if !is_in_range(dst, size) {
+        let view = dst.view;
+        let texture = dst.texture;
+        return TexturePlanned::Refused(range_refusal(view, texture, CopySide::Destination, size));
+    }
+    place_sides(same, split, src, dst, size)
 }
 
 fn match_copy(
@@ -383,13 +419,11 @@ pub fn copy_texture_to_texture(
 ) -> TexturePlanned
     ensures { λ r. ⌜ r ≡ textureToTexture «src_index» src «dst_index» dst «copy_size» ⌝ }
 {
-    let from = check_side(src, CopySide::Source);
-    let Checked::GoOn = from else {
-        return TexturePlanned::Refused(rule_answers::why(from));
-    };
-    let to = check_side(dst, CopySide::Destination);
-    let Checked::GoOn = to else {
-        return TexturePlanned::Refused(rule_answers::why(to));
+    let src_texture = src.texture;
+    let dst_texture = dst.texture;
+    let checked = records::check_textures(src_texture, dst_texture);
+    let Checked::GoOn = checked else {
+        return TexturePlanned::Refused(rule_answers::why(checked));
     };
     match_split(src_index == dst_index, src, dst, copy_size)
 }

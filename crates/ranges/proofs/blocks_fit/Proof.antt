@@ -1,7 +1,6 @@
 -- `blocks_fit` meets its contract.
 -- Assumes nothing.
 use borrow.Author.Needs.{needs}
-use Rattle.checks.proofs.Rules.{and-lines}
 use Rattle.ranges.specs.Inside.{blocksFit}
 use Rattle.ranges.proofs.blocks_fit.Statement.{statement}
 use Rattle.ranges.proofs.blocks_fit.Tie as tie
@@ -10,4 +9,4 @@ pub blocks-fit-spec : {M : Type 1} → statement M
 unfolding blocksFit
 blocks-fit-spec =
     tie.close
-    (tie.spec (λ c κs. search needs) (λ c. search and-lines depth 10) (λ c κs. search needs) (λ c. search and-lines depth 10) (λ c κs. search needs) (λ c. search and-lines depth 10) (λ c κs. search needs) (λ c. search and-lines depth 10))
+    (tie.spec (λ c κs. search needs) (λ c κs. search needs) (λ c κs. search needs) (λ c κs. search needs) (λ c κs. search needs) (λ c κs. search needs) (λ c. cc))

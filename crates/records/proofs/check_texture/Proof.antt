@@ -10,4 +10,4 @@ use Rattle.records.proofs.check_texture.Tie as tie
 pub check-texture-spec : {M : Type 1} → statement M
 unfolding textureChecks decided
 check-texture-spec =
-    tie.close (tie.spec (λ c κs. search needs) (λ c. search ordered depth 8) (λ c. search ordered depth 8))
+    tie.close (tie.spec (λ c κs. search needs) (λ c κs. search needs) (λ c. search ordered depth 8) (λ c. search ordered depth 8))

@@ -8,4 +8,4 @@ use Rattle.records.proofs.texture_in_bounds.Tie as tie
 
 pub texture-in-bounds-spec : {M : Type 1} → statement M
 unfolding textureInBounds
-texture-in-bounds-spec = tie.close (tie.spec (λ c κs. search needs) (λ c. search and-lines depth 10) (λ c κs. search needs) (λ c. search and-lines depth 10) (λ c κs. search needs) (λ c. search and-lines depth 10))
+texture-in-bounds-spec = tie.close (tie.spec (λ c κs. search needs) (λ c. search and-lines depth 10) (λ c κs. search needs) (λ c. search and-lines depth 10))

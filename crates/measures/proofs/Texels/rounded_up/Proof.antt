@@ -1,10 +1,9 @@
 -- `Texels::rounded_up` meets its contract. The product fits since rounding adds less than a block.
 -- Assumes nothing.
-use mathlib.Core.Path.{_≡_, ap}
-use Prim.Native.Nat.{ℕ, _*_}
+use mathlib.Core.Path.{refl}
 use native.Mathlib.Omega.{arith}
 use borrow.Author.Needs.{needs}
-use Rattle.measures.specs.Measure.{roundedUp}
+use Rattle.measures.specs.Measure.{blocksOf, roundedUp}
 use Rattle.measures.proofs.Rounding.{single-texels, tight}
 use Rattle.measures.proofs.Texels.rounded_up.Statement.{statement}
 use Rattle.measures.proofs.Texels.rounded_up.Tie as tie
@@ -12,15 +11,13 @@ use Rattle.measures.proofs.Texels.rounded_up.Tie as tie
 single : tie.Need-returns
 single c = let a = c .before .args in single-texels (a .self .0) (a .size) (c .if1 .taken)
 
-product : (c : tie.After-in-blocks) → (let a = c .before .before .args in c .in-blocks .result .0 * a .size ≡ roundedUp (a .self .0) (a .size))
-unfolding roundedUp
-product c = ap (λ (n : ℕ). n * c .before .before .args .size) (c .in-blocks .ensures)
+add-t5 : tie.Need-add-t5
+add-t5 c = let p = c .before .before .pre in omega (arith, p .0, p .1)
 
-mul-t5 : tie.Need-mul-t5
-mul-t5 c = let s = c .before .before .before in omega (arith, product (c .before), tight (s .args .size) (s .pre .0) (s .args .self .0))
-
-returns-2 : tie.Need-returns-2
-returns-2 c = product (c .before)
+mul-t7 : tie.Need-mul-t7
+unfolding blocksOf roundedUp
+mul-t7 c = let s = c .before .before in omega (arith, tight (s .args .size) (s .pre .0) (s .args .self .0), s .pre .1)
 
 pub rounded-up-spec : {M : Type 1} → statement M
-rounded-up-spec = tie.close (tie.spec single (λ c κs. search needs) mul-t5 returns-2)
+unfolding blocksOf roundedUp
+rounded-up-spec = tie.close (tie.spec single (λ c. search needs) add-t5 (λ c. search needs) mul-t7 (λ c. refl))

@@ -1,14 +1,14 @@
--- `plan_placed` meets its contract.
+-- `place_sides` meets its contract.
 -- Assumes nothing.
 use mathlib.Core.Path.{_∙_}
 use borrow.Author.Needs.{needs}
-use Rattle.c_textures.specs.Stages.{placed}
-use Rattle.c_textures.proofs.plan_placed.Statement.{statement}
-use Rattle.c_textures.proofs.plan_placed.Tie as tie
+use Rattle.texture_copies.specs.Stages.{placedCopy}
+use Rattle.texture_copies.proofs.place_sides.Statement.{statement}
+use Rattle.texture_copies.proofs.place_sides.Tie as tie
 
-pub plan-placed-spec : {M : Type 1} → statement M
-unfolding placed
-plan-placed-spec =
+pub place-sides-spec : {M : Type 1} → statement M
+unfolding placedCopy
+place-sides-spec =
     tie.close
     (tie.spec
     (λ c κs. search needs)
