@@ -22,8 +22,8 @@ use Rattle.texture_copies.specs.Copy.{BetweenTextures, between, isOneTex
 -- X and Y of the source against its plane
 unfoldable pub planeChecks : TextureSide → Extent3d → Checks
 planeChecks src size =
-    flatten (dimensionChecks (subjectOf (src .texture) Source) X (src .view .origin .x) (size .width) (planeWidth src) false)
-    ∷ flatten (dimensionChecks (subjectOf (src .texture) Source) Y (src .view .origin .y) (size .height) (planeHeight src) false)
+    flatten (dimensionChecks (subjectOf (src .texture) Source) X (src .view .origin .x) (size .width) (planeWidth src) false)  -- 9
+    ∷ flatten (dimensionChecks (subjectOf (src .texture) Source) Y (src .view .origin .y) (size .height) (planeHeight src) false)  -- 9
     ∷ []
 
 unfoldable pub copyChecks : BetweenTextures → Checks
