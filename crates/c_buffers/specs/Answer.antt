@@ -1,10 +1,10 @@
 -- What a caller in another language is answered for a copy between buffers: the answer of `bufferToBuffer`.
 use Prim.Native.Nat.{ℕ}
 use mathlib.Core.Bool.{Bool, false}
-use Rattle.checks.specs.Checks.{pick}
+use Rattle.conditions.specs.Conditions.{pick}
 use Rattle.records.specs.declared.Device.{Device}
-use Rattle.buffer_copies.specs.declared.BufferPlanned.{BufferPlanned}
-use Rattle.buffer_copies.specs.BufferCopies.{bufferToBuffer}
+use Rattle.copy_buffers.specs.declared.BufferPlanned.{BufferPlanned}
+use Rattle.copy_buffers.specs.BufferCopies.{bufferToBuffer}
 use Rattle.c_records.specs.CRecords.{bufferFrom, givenSize}
 
 -- the fact that this kind of copy asks for

@@ -1,10 +1,10 @@
 // Copies between buffers, for callers in C and Rust. A crate of its own, so that its archive holds one copy function, into
 // which the compiler puts every rule.
 ghost use mathlib.Core.Path.{_≡_};
-ghost use Rattle.checks.specs.Checks.{pick};
-ghost use Rattle.words.specs.Words.{buffersNumber, buffersPlan, buffersRanges};
+ghost use Rattle.conditions.specs.Conditions.{pick};
+ghost use Rattle.c_words.specs.Words.{buffersNumber, buffersPlan, buffersRanges};
 ghost use Rattle.c_buffers.specs.Answer.{answer};
-use buffer_copies::BufferPlanned;
+use copy_buffers::BufferPlanned;
 use records::Device;
 
 fn other_index(same: bool) -> u32
@@ -38,7 +38,7 @@ fn plan_copy(
     let dst = c_records::buffer_from(dst_size, dst_usage);
     let bytes = c_records::given_size(has_size, size);
     let dst_index = other_index(same_buffer);
-    buffer_copies::copy_buffer_to_buffer(
+    copy_buffers::copy_buffer_to_buffer(
         device,
         0,
         src,
@@ -82,5 +82,5 @@ pub extern "C" fn copy_planner_buffer_to_buffer(
         has_size,
         size,
     );
-    words::put_buffers(planned, plan, ranges)
+    c_words::put_buffers(planned, plan, ranges)
 }

@@ -4,13 +4,13 @@ use mathlib.Core.Bool.{Bool, false}
 use mathlib.Core.List.{List}
 use lib.Dec.{ltb}
 use lib.ListN.{getD}
-use Rattle.checks.specs.Checks.{stop-if, _$_}
+use Rattle.conditions.specs.Conditions.{stop-if, _$_}
 use Rattle.formats.specs.declared.TextureAspect.the-variants.{Plane2}
 use Rattle.refusals.specs.declared.TransferError.the-variants.{InvalidTextureAspect}
 use Rattle.records.specs.declared.Device.{Device}
-use Rattle.buffer_texture.specs.declared.BufferTexturePlanned.{BufferTexturePlanned}
-use Rattle.buffer_texture.specs.declared.BufferTexturePlanned.the-variants.{Refused}
-use Rattle.buffer_texture.specs.Plan.{textureToBuffer}
+use Rattle.copy_buffer_texture.specs.declared.BufferTexturePlanned.{BufferTexturePlanned}
+use Rattle.copy_buffer_texture.specs.declared.BufferTexturePlanned.the-variants.{Refused}
+use Rattle.copy_buffer_texture.specs.Plan.{textureToBuffer}
 use Rattle.c_records.specs.CRecords.{bufferFrom, layoutFrom, textureFrom, viewFrom, sizeFrom}
 
 -- the fact that this kind of copy asks for

@@ -1,9 +1,9 @@
 // Copies from a texture into a buffer, for callers in C and Rust. A crate of its own, so that its archive holds one copy function, into
 // which the compiler puts every rule.
 ghost use mathlib.Core.Path.{_≡_};
-ghost use Rattle.words.specs.Words.{copyNumber, copyPlan, copyRangesOf};
+ghost use Rattle.c_words.specs.Words.{copyNumber, copyPlan, copyRangesOf};
 ghost use Rattle.c_downloads.specs.Answer.{known, answer};
-use buffer_texture::BufferTexturePlanned;
+use copy_buffer_texture::BufferTexturePlanned;
 use formats::TextureAspect;
 use records::Device;
 use refusals::TransferError;
@@ -41,7 +41,7 @@ fn plan_known(
     let t = c_records::texture_from(texture);
     let v = c_records::view_from(view);
     let s = c_records::size_from(size);
-    buffer_texture::copy_texture_to_buffer(device, t, v, b, layout, s)
+    copy_buffer_texture::copy_texture_to_buffer(device, t, v, b, layout, s)
 }
 
 fn plan_copy(
@@ -114,5 +114,5 @@ pub extern "C" fn copy_planner_texture_to_buffer(
         view,
         size,
     );
-    words::put_copy(planned, plan, ranges)
+    c_words::put_copy(planned, plan, ranges)
 }

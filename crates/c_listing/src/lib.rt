@@ -2,9 +2,9 @@
 ghost use mathlib.Core.Path.{_≡_};
 ghost use Prim.Native.Nat.{_+_, _-_, _≤_, min};
 ghost use lib.ListN.{length};
-ghost use Rattle.listing.specs.Listing.{restOf, listingOf};
+ghost use Rattle.sheet_listing.specs.Listing.{restOf, listingOf};
 ghost use Rattle.c_listing.specs.Lists.{counted, frontPut, Lists};
-use listing::Listing;
+use sheet_listing::Listing;
 
 // How many bytes a part had, where the next one belongs, and the state behind it.
 pub struct Listed {
@@ -38,7 +38,7 @@ fn put_front(out: &mut [u8], at: usize, text: &[u8]) -> usize
         return next;
     }
     let n = lesser(out.len() - at, text.len());
-    texts::put_bytes(out, at, &text[..n]);
+    sheet_text::put_bytes(out, at, &text[..n]);
     next
 }
 
@@ -46,7 +46,7 @@ fn list_part(st: Listing, s: &[u8], out: &mut [u8], at: usize) -> Listed
     ensures { λ r. ⌜ Lists (now (out .entry)) (now (out .exit)) at (restOf (now (s .entry)) st) (restOf (now (s .entry)) (r .listing)) (r .count) (r .next) ⌝ }
 {
     let mut part = [0u8; 16384];
-    let filled = listing::fill(st, s, &mut part);
+    let filled = sheet_listing::fill(st, s, &mut part);
     let count = filled.count;
     let listing = filled.listing;
     let next = put_front(out, at, &part[..count]);
@@ -63,7 +63,7 @@ pub extern "C" fn copy_planner_list(sheet: &[u8], out: &mut [u8]) -> usize
     ensures { λ r. ⌜ r ≡ counted (length (listingOf (now (sheet .entry)))) ⌝ }
     ensures { λ _. ⌜ now (out .exit) ≡ frontPut (now (out .entry)) 0 (listingOf (now (sheet .entry))) ⌝ }
 {
-    let mut st = listing::start(sheet);
+    let mut st = sheet_listing::start(sheet);
     let mut at: usize = 0;
     loop {
         let listed = list_part(st, sheet, out, at);

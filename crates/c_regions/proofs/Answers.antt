@@ -8,9 +8,9 @@ use borrow.Author.Tests.{eq-eqb, ne-eqb, le-leb, lt-leb}
 use lib.ListN.{length, set, drop}
 use lib.Seq.{sets}
 use Rattle.flags.specs.FormatAspects.{PLANE-0, PLANE-1}
-use Rattle.plans.specs.declared.Plan.{Plan}
-use Rattle.plans.specs.Regions.{leftOf, fieldsOf}
-use Rattle.writer.specs.Writing.{numbersLeft, behindAll, fits, slotsOf}
+use Rattle.plan_kinds.specs.declared.Plan.{Plan}
+use Rattle.plan_kinds.specs.Regions.{leftOf, fieldsOf}
+use Rattle.plan_writer.specs.Writing.{numbersLeft, behindAll, fits, slotsOf}
 use Rattle.c_regions.specs.Regions.{wordsOf, word, leftIn, ifLeft, nextNumber, bufferTextureBehind, withAspects, halved, depthOrStencil, textureRegion, partFollows, partOn, writtenNumber, writtenWords}
 use Rattle.c_regions.proofs.Stores.{own-aspects}
 

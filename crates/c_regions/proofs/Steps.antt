@@ -8,20 +8,20 @@ use native.Mathlib.Nat.{mod-eq-of-lt, div-one}
 use borrow.Author.Tests.{ne-eqb}
 use lib.Dec.{eqb}
 use lib.ListN.{drop}
-use Rattle.checks.specs.Checks.{stop-if}
+use Rattle.conditions.specs.Conditions.{stop-if}
 use Rattle.flags.specs.FormatAspects.{DEPTH, STENCIL, PLANE-0}
-use Rattle.rows.specs.Rows.{bufferCopyNumbers, bufferTextureCopyNumbers, textureCopyNumbers}
-use Rattle.selectors.specs.Selector.{nextLayer}
-use Rattle.buffer_copies.specs.BufferCopies as K
-use Rattle.buffer_texture_plans.specs.Asking as L
-use Rattle.texture_plans.specs.declared.CopyParts.{CopyParts}
-use Rattle.texture_plans.specs.declared.CopyParts.the-variants.{Whole, DepthStencil, Planes}
-use Rattle.texture_plans.specs.declared.TexturePlan.{TexturePlan}
-use Rattle.texture_plans.specs.Asking as X
-use Rattle.plans.specs.declared.Plan.{Plan}
-use Rattle.plans.specs.declared.Plan.the-variants.{Buffers, BufferTexture, Textures}
-use Rattle.plans.specs.Regions.{leftOf, bufferNumbers, bufferTextureNumbers, textureNumbers, numbersOf, behindOf}
-use Rattle.words.specs.Words.{partsNumber, bufferWords, bufferTextureWords, textureWords}
+use Rattle.plan_rows.specs.Rows.{bufferCopyNumbers, bufferTextureCopyNumbers, textureCopyNumbers}
+use Rattle.rule_selectors.specs.Selector.{nextLayer}
+use Rattle.copy_buffers.specs.BufferCopies as K
+use Rattle.plan_buffer_texture.specs.Asking as L
+use Rattle.plan_textures.specs.declared.CopyParts.{CopyParts}
+use Rattle.plan_textures.specs.declared.CopyParts.the-variants.{Whole, DepthStencil, Planes}
+use Rattle.plan_textures.specs.declared.TexturePlan.{TexturePlan}
+use Rattle.plan_textures.specs.Asking as X
+use Rattle.plan_kinds.specs.declared.Plan.{Plan}
+use Rattle.plan_kinds.specs.declared.Plan.the-variants.{Buffers, BufferTexture, Textures}
+use Rattle.plan_kinds.specs.Regions.{leftOf, bufferNumbers, bufferTextureNumbers, textureNumbers, numbersOf, behindOf}
+use Rattle.c_words.specs.Words.{partsNumber, bufferWords, bufferTextureWords, textureWords}
 use Rattle.c_regions.specs.Regions.{wordsOf, leftIn, bufferRegion, bufferBehind, bufferTextureRegion, bufferTextureBehind, withAspects, halved, depthOrStencil, textureRegion, partFollows, partOn, textureBehind}
 use Rattle.c_regions.specs.Laws.{regionFrom, wordsBehind, NextAgrees, EveryStep}
 

@@ -2,10 +2,10 @@
 use Prim.Native.Nat.{ℕ, _^_, _<_}
 use mathlib.Core.Path.{_≡_}
 use mathlib.Core.List.{List}
-use Rattle.words.specs.Words.{bufferWords, bufferTextureWords, textureWords}
-use Rattle.plans.specs.declared.Plan.{Plan}
-use Rattle.plans.specs.declared.Plan.the-variants.{Buffers, BufferTexture, Textures}
-use Rattle.plans.specs.Regions.{leftOf, numbersOf, behindOf}
+use Rattle.c_words.specs.Words.{bufferWords, bufferTextureWords, textureWords}
+use Rattle.plan_kinds.specs.declared.Plan.{Plan}
+use Rattle.plan_kinds.specs.declared.Plan.the-variants.{Buffers, BufferTexture, Textures}
+use Rattle.plan_kinds.specs.Regions.{leftOf, numbersOf, behindOf}
 use Rattle.c_regions.specs.Regions.{wordsOf, leftIn, bufferRegion, bufferBehind, bufferTextureRegion, bufferTextureBehind, textureRegion, textureBehind}
 
 -- the next region from a plan's words

@@ -4,13 +4,13 @@ use mathlib.Core.Bool.{Bool, _&&_, not}
 use mathlib.Core.List.{List}
 use lib.Dec.{eqb}
 use lib.ListN.{getD, set, take, drop}
-use Rattle.checks.specs.Checks.{pick, _$_}
+use Rattle.conditions.specs.Conditions.{pick, _$_}
 use Rattle.flags.specs.FormatAspects.{DEPTH, STENCIL, PLANE-0, PLANE-1}
-use Rattle.words.specs.Words.{bufferWords, bufferTextureWords, textureWords}
-use Rattle.plans.specs.declared.Plan.{Plan}
-use Rattle.plans.specs.declared.Plan.the-variants.{Buffers, BufferTexture, Textures}
-use Rattle.plans.specs.Regions.{leftOf}
-use Rattle.writer.specs.Writing.{behindAll, fits}
+use Rattle.c_words.specs.Words.{bufferWords, bufferTextureWords, textureWords}
+use Rattle.plan_kinds.specs.declared.Plan.{Plan}
+use Rattle.plan_kinds.specs.declared.Plan.the-variants.{Buffers, BufferTexture, Textures}
+use Rattle.plan_kinds.specs.Regions.{leftOf}
+use Rattle.plan_writer.specs.Writing.{behindAll, fits}
 
 unfoldable pub wordsOf : Plan → List ℕ
 wordsOf (Buffers p) = bufferWords p

@@ -3,12 +3,12 @@ ghost use mathlib.Core.Path.{_≡_};
 ghost use Prim.Native.Nat.{_+_, _%_, _^_};
 ghost use lib.ListN.{length, replicate, drop};
 ghost use Rattle.flags.specs.FormatAspects.{PLANE-1};
-ghost use Rattle.writer.specs.Writing.{slotsOf};
-ghost use Rattle.plan_words.specs.PlanWords.{buffersFrom, bufferTextureFrom, texturesFrom};
+ghost use Rattle.plan_writer.specs.Writing.{slotsOf};
+ghost use Rattle.c_plans.specs.PlanWords.{buffersFrom, bufferTextureFrom, texturesFrom};
 ghost use Rattle.c_regions.specs.Laws.{EveryStep};
 ghost use Rattle.c_regions.specs.Regions.{ifLeft, nextNumber, bufferRegion, bufferBehind, bufferTextureRegion, bufferTextureBehind, withAspects, halved, depthOrStencil, textureRegion, partFollows, partOn, textureBehind, writtenNumber, writtenWords};
 use flags::FormatAspects;
-use plans::Plan;
+use plan_kinds::Plan;
 
 // The refusal of a slice that is too short.
 const TOO_SHORT: u32 = 38;
@@ -226,12 +226,12 @@ pub extern "C" fn copy_planner_write_buffer_copies(plan: &mut [u64; 6], regions:
     ensures { λ _. ⌜ now (plan .exit) ≡ writtenWords (now (plan .entry)) (Plan.Buffers (buffersFrom (now (plan .entry)))) (length (now (regions .entry))) ⌝ }
 {
     let w = *plan;
-    let p = plan_words::buffers_from(w);
+    let p = c_plans::buffers_from(w);
     if p.left as u64 * 3 > regions.len() as u64 {
         return TOO_SHORT;
     }
-    let behind = writer::write_buffers(p, regions);
-    *plan = words::buffer_words(behind);
+    let behind = plan_writer::write_buffers(p, regions);
+    *plan = c_words::buffer_words(behind);
     0
 }
 
@@ -245,12 +245,12 @@ pub extern "C" fn copy_planner_write_buffer_texture_copies(
     ensures { λ _. ⌜ now (plan .exit) ≡ writtenWords (now (plan .entry)) (Plan.BufferTexture (bufferTextureFrom (now (plan .entry)))) (length (now (regions .entry))) ⌝ }
 {
     let w = *plan;
-    let p = plan_words::buffer_texture_from(w);
+    let p = c_plans::buffer_texture_from(w);
     if p.left as u64 * 12 > regions.len() as u64 {
         return TOO_SHORT;
     }
-    let behind = writer::write_buffer_textures(p, regions);
-    *plan = words::buffer_texture_words(behind);
+    let behind = plan_writer::write_buffer_textures(p, regions);
+    *plan = c_words::buffer_texture_words(behind);
     0
 }
 
@@ -264,11 +264,11 @@ pub extern "C" fn copy_planner_write_texture_copies(
     ensures { λ _. ⌜ now (plan .exit) ≡ writtenWords (now (plan .entry)) (Plan.Textures (texturesFrom (now (plan .entry)))) (length (now (regions .entry))) ⌝ }
 {
     let w = *plan;
-    let p = plan_words::textures_from(w);
+    let p = c_plans::textures_from(w);
     if p.left as u64 * 15 > regions.len() as u64 {
         return TOO_SHORT;
     }
-    let behind = writer::write_textures(p, regions);
-    *plan = words::texture_words(behind);
+    let behind = plan_writer::write_textures(p, regions);
+    *plan = c_words::texture_words(behind);
     0
 }

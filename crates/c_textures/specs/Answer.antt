@@ -4,13 +4,13 @@ use mathlib.Core.Bool.{Bool, _||_}
 use mathlib.Core.List.{List}
 use lib.Dec.{ltb}
 use lib.ListN.{getD}
-use Rattle.checks.specs.Checks.{pick, stop-if, _$_}
+use Rattle.conditions.specs.Conditions.{pick, stop-if, _$_}
 use Rattle.formats.specs.declared.TextureAspect.the-variants.{Plane2}
 use Rattle.refusals.specs.declared.TransferError.the-variants.{InvalidTextureAspect}
 use Rattle.records.specs.declared.TextureSide.{TextureSide}
-use Rattle.texture_copies.specs.declared.TexturePlanned.{TexturePlanned}
-use Rattle.texture_copies.specs.declared.TexturePlanned.the-variants.{Refused}
-use Rattle.texture_copies.specs.Plan.{textureToTexture}
+use Rattle.copy_textures.specs.declared.TexturePlanned.{TexturePlanned}
+use Rattle.copy_textures.specs.declared.TexturePlanned.the-variants.{Refused}
+use Rattle.copy_textures.specs.Plan.{textureToTexture}
 use Rattle.c_records.specs.CRecords.{textureFrom, viewFrom, sizeFrom}
 
 unfoldable pub sideFrom : List ℕ → List ℕ → TextureSide

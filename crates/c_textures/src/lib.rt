@@ -1,13 +1,13 @@
 // Copies between textures, for callers in C and Rust. A crate of its own, so that its archive holds one copy function, into
 // which the compiler puts every rule.
 ghost use mathlib.Core.Path.{_≡_};
-ghost use Rattle.checks.specs.Checks.{pick};
-ghost use Rattle.words.specs.Words.{texturesNumber, texturesPlan, texturesRanges};
+ghost use Rattle.conditions.specs.Conditions.{pick};
+ghost use Rattle.c_words.specs.Words.{texturesNumber, texturesPlan, texturesRanges};
 ghost use Rattle.c_textures.specs.Answer.{sideFrom, known, answer};
+use copy_textures::TexturePlanned;
 use formats::TextureAspect;
 use records::TextureSide;
 use refusals::TransferError;
-use texture_copies::TexturePlanned;
 
 // The numbers past this one name no aspect.
 const LAST_ASPECT: u32 = 5;
@@ -51,7 +51,7 @@ fn plan_known(
 {
     let from = side_from(src, src_view);
     let to = side_from(dst, dst_view);
-    texture_copies::copy_texture_to_texture(
+    copy_textures::copy_texture_to_texture(
         0,
         from,
         dst_index(same_texture),
@@ -96,5 +96,5 @@ pub extern "C" fn copy_planner_texture_to_texture(
     ensures { λ _. ⌜ now (ranges .exit) ≡ texturesRanges (answer «same_texture» (now (src .entry)) (now («src_view» .entry)) (now (dst .entry)) (now («dst_view» .entry)) (now (size .entry))) ⌝ }
 {
     let planned = plan_copy(same_texture, src, src_view, dst, dst_view, size);
-    words::put_textures(planned, plan, ranges)
+    c_words::put_textures(planned, plan, ranges)
 }

@@ -8,20 +8,20 @@ use native.Mathlib.Omega.{arith}
 use native.Mathlib.Nat.{pos-of-ne-zero}
 use lib.Dec.{eqb, leb, ltb}
 use borrow.Author.Tests.{ltb-true, leb-true, eqb-true, eqb-false}
-use Rattle.checks.specs.Checks.{pick, every, stop-if}
-use Rattle.checks.proofs.Rules.{AllTrue, all-true}
-use Rattle.checks.proofs.Tables.{at-each}
+use Rattle.conditions.specs.Conditions.{pick, every, stop-if}
+use Rattle.conditions.proofs.Rules.{AllTrue, all-true}
+use Rattle.conditions.proofs.Tables.{at-each}
 use Rattle.measures.specs.declared.OptionU32.the-variants.{Given, Absent}
 use Rattle.measures.specs.Measure.{orElse}
 use Rattle.formats.specs.declared.FormatRow.{FormatRow}
 use Rattle.formats.specs.declared.TextureAspect.{TextureAspect}
-use Rattle.formats.specs.Sheet.{formats, unknown, rowOf, blockWidth, blockHeight, aspectsOf, none}
+use Rattle.formats.specs.Table.{formats, unknown, formatRow, blockWidth, blockHeight, aspectsOf, none}
 use Rattle.formats.specs.Aspects.{askedOf, bytesOf, blockCopySize, chosenAspects, unlessNone}
 use Rattle.formats.specs.Laws.{EveryFormat, maxBlockSide, maxBlockBytes}
 
 -- an arm of the match on a format: the number it is, what the arm made, and the table's row of that number
-pub arm : (format k : ℕ) (made row : FormatRow) → format ≡ k → made ≡ row → row ≡ rowOf k → made ≡ rowOf format
-arm format k made row e m r = m ∙ r ∙ sym (ap rowOf e)
+pub arm : (format k : ℕ) (made row : FormatRow) → format ≡ k → made ≡ row → row ≡ formatRow k → made ≡ formatRow format
+arm format k made row e m r = m ∙ r ∙ sym (ap formatRow e)
 
 -- what is computed of every row
 abbrev tests : FormatRow → List Bool
@@ -65,13 +65,13 @@ passed r (w, (w′, (h, (h′, (c, (d, (s, (p, (q, (b, u)))))))))) =
       srgb = leb-true _ _ b;
     }
 
-pub row-sound : (format : ℕ) → Sound (rowOf format)
-unfolding formats rowOf
-row-sound format = passed (rowOf format) (all-true (tests (rowOf format)) (at-each (λ r. every (tests r)) formats unknown refl refl format))
+pub row-sound : (format : ℕ) → Sound (formatRow format)
+unfolding formats formatRow
+row-sound format = passed (formatRow format) (all-true (tests (formatRow format)) (at-each (λ r. every (tests r)) formats unknown refl refl format))
 
 -- an srgb is never the first row
-pub srgb-fits : (format : ℕ) → rowOf format .srgb ≤ format
-unfolding formats rowOf
+pub srgb-fits : (format : ℕ) → formatRow format .srgb ≤ format
+unfolding formats formatRow
 srgb-fits zero = omega arith
 srgb-fits (suc n) = let s = row-sound (suc n) .srgb in omega arith
 
@@ -106,8 +106,8 @@ every-format format =
       width-few = s .width-few;
       height-some = s .height-some;
       height-few = s .height-few;
-      bytes-some = λ asked n e. let g = given (bytesOf (rowOf format) (chosenAspects format asked)) n e in omega arith;
-      bytes-few = λ asked n e. let g = given (bytesOf (rowOf format) (chosenAspects format asked)) n e in omega (arith, bytes-few (rowOf format) s (chosenAspects format asked));
+      bytes-some = λ asked n e. let g = given (bytesOf (formatRow format) (chosenAspects format asked)) n e in omega arith;
+      bytes-few = λ asked n e. let g = given (bytesOf (formatRow format) (chosenAspects format asked)) n e in omega (arith, bytes-few (formatRow format) s (chosenAspects format asked));
     }
 
 -- the bytes of a block of what is chosen, as a number
@@ -116,17 +116,17 @@ unfolding orElse
 number-of bytes true e = rw e (eqb-true bytes none e)
 number-of bytes false e = rw e
 
-pub chosen-size : (format : ℕ) (asked : TextureAspect) → bytesOf (rowOf format) (chosenAspects format asked) ≡ orElse (blockCopySize format asked) 0
+pub chosen-size : (format : ℕ) (asked : TextureAspect) → bytesOf (formatRow format) (chosenAspects format asked) ≡ orElse (blockCopySize format asked) 0
 unfolding blockCopySize
-chosen-size format asked = number-of (bytesOf (rowOf format) (chosenAspects format asked)) _ refl
+chosen-size format asked = number-of (bytesOf (formatRow format) (chosenAspects format asked)) _ refl
 
 -- where it is colour
 pub color-size :
     (format : ℕ) (asked : TextureAspect) (aspects : ℕ)
     → aspects ≡ aspectsOf format
     → askedOf aspects asked ≡ 1
-    → rowOf format .color ≡ orElse (blockCopySize format asked) 0
+    → formatRow format .color ≡ orElse (blockCopySize format asked) 0
 unfolding chosenAspects bytesOf stop-if
 color-size format asked aspects e h =
     let chosen : askedOf (aspectsOf format) asked ≡ 1 = ap (λ x. askedOf x asked) (sym e) ∙ h in
-    ap (bytesOf (rowOf format)) (sym chosen) ∙ chosen-size format asked
+    ap (bytesOf (formatRow format)) (sym chosen) ∙ chosen-size format asked

@@ -3,7 +3,7 @@ use Prim.Native.Nat.{ℕ}
 use mathlib.Core.List.{[], _∷_}
 use lib.Dec.{eqb}
 use lib.ListN.{getD}
-use Rattle.checks.specs.Checks.{pick, stop-if, _$_}
+use Rattle.conditions.specs.Conditions.{pick, stop-if, _$_}
 use Rattle.flags.specs.Flags.{meet}
 use Rattle.flags.specs.FormatAspects.{COLOR, DEPTH, STENCIL, PLANE-0, PLANE-1, PLANE-2}
 use Rattle.measures.specs.declared.OptionU32.{OptionU32}
@@ -11,7 +11,7 @@ use Rattle.measures.specs.declared.OptionU32.the-variants.{Given, Absent}
 use Rattle.formats.specs.declared.FormatRow.{FormatRow}
 use Rattle.formats.specs.declared.TextureAspect.{TextureAspect}
 use Rattle.formats.specs.declared.TextureAspect.the-variants.{All, StencilOnly, DepthOnly, Plane0, Plane1, Plane2}
-use Rattle.formats.specs.Sheet.{rowOf, aspectsOf, isMultiPlanar, none}
+use Rattle.formats.specs.Table.{formatRow, aspectsOf, isMultiPlanar, none}
 
 -- the aspect of a number, 0 to 5; a larger one, which callers refuse, counts as 5
 unfoldable pub aspectOf : ℕ → TextureAspect
@@ -45,7 +45,7 @@ unlessNone bytes = pick (eqb bytes none) Absent (Given bytes)
 
 -- the bytes of a block of what is chosen, where it has some
 unfoldable pub blockCopySize : ℕ → TextureAspect → OptionU32
-blockCopySize format asked = unlessNone (bytesOf (rowOf format) (chosenAspects format asked))
+blockCopySize format asked = unlessNone (bytesOf (formatRow format) (chosenAspects format asked))
 
 -- the format that a plane of a planar format may be split into: r8unorm of plane 0, rg8unorm of plane 1
 unfoldable pub planeFormat : TextureAspect → OptionU32

@@ -3,7 +3,7 @@ use mathlib.Core.Path.{_≡_}
 use Prim.Native.Nat.{ℕ, _≤_, _<_}
 use Rattle.measures.specs.declared.OptionU32.the-variants.{Given}
 use Rattle.formats.specs.declared.TextureAspect.{TextureAspect}
-use Rattle.formats.specs.Sheet.{blockWidth, blockHeight}
+use Rattle.formats.specs.Table.{blockWidth, blockHeight}
 use Rattle.formats.specs.Aspects.{blockCopySize}
 
 -- the largest block side and the most bytes of a block that a format may have

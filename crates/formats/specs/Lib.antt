@@ -1,3 +1,3 @@
-pub mod Sheet
+pub mod Table
 pub mod Aspects
 pub mod Laws

@@ -3,7 +3,7 @@ ghost use mathlib.Core.Path.{_≡_};
 ghost use mathlib.Core.Bool.{true};
 ghost use Rattle.flags.specs.FormatAspects.{COLOR};
 ghost use Rattle.measures.specs.Measure.{orElse};
-ghost use Rattle.formats.specs.Sheet.{color as colorRow, depthStencil, planar as planarRow, rowOf, isFormat, blockWidth, blockHeight, aspectsOf, isDepthStencil, isCombinedDepthStencil, removeSrgb, isMultiPlanar};
+ghost use Rattle.formats.specs.Table.{color as colorRow, depthStencil, planar as planarRow, formatRow, isFormat, blockWidth, blockHeight, aspectsOf, isDepthStencil, isCombinedDepthStencil, removeSrgb, isMultiPlanar};
 ghost use Rattle.formats.specs.Aspects.{aspectOf, askedOf, chosenAspects, bytesOf, blockCopySize, planeFormat, aspectSpecificFormat, subsamplingFactor};
 ghost use Rattle.formats.specs.Laws.{EveryFormat};
 use flags::FormatAspects;
@@ -110,7 +110,7 @@ fn planar(aspects: FormatAspects, plane_0: u32, plane_1: u32) -> FormatRow
 
 // The table. A number past it names a format with no aspects.
 fn format_row(format: u32) -> FormatRow
-    ensures { λ r. ⌜ r ≡ rowOf format ⌝ }
+    ensures { λ r. ⌜ r ≡ formatRow format ⌝ }
 {
     match format {
         0 => color(1, 1, 1, LINEAR),
@@ -200,42 +200,42 @@ pub fn chosen_aspects(format: u32, asked: TextureAspect) -> FormatAspects
 
 // The bytes of a block of each aspect. One field at a time, a look at the table is one load.
 fn color_bytes(format: u32) -> u32
-    ensures { λ r. ⌜ r ≡ rowOf format .color ⌝ }
+    ensures { λ r. ⌜ r ≡ formatRow format .color ⌝ }
 {
     let row = format_row(format);
     row.color
 }
 
 fn depth_bytes(format: u32) -> u32
-    ensures { λ r. ⌜ r ≡ rowOf format .depth ⌝ }
+    ensures { λ r. ⌜ r ≡ formatRow format .depth ⌝ }
 {
     let row = format_row(format);
     row.depth
 }
 
 fn stencil_bytes(format: u32) -> u32
-    ensures { λ r. ⌜ r ≡ rowOf format .stencil ⌝ }
+    ensures { λ r. ⌜ r ≡ formatRow format .stencil ⌝ }
 {
     let row = format_row(format);
     row.stencil
 }
 
 fn plane_0_bytes(format: u32) -> u32
-    ensures { λ r. ⌜ r ≡ rowOf format .«plane_0» ⌝ }
+    ensures { λ r. ⌜ r ≡ formatRow format .«plane_0» ⌝ }
 {
     let row = format_row(format);
     row.plane_0
 }
 
 fn plane_1_bytes(format: u32) -> u32
-    ensures { λ r. ⌜ r ≡ rowOf format .«plane_1» ⌝ }
+    ensures { λ r. ⌜ r ≡ formatRow format .«plane_1» ⌝ }
 {
     let row = format_row(format);
     row.plane_1
 }
 
 fn bytes_of(format: u32, aspects: FormatAspects) -> u32
-    ensures { λ r. ⌜ r ≡ bytesOf (rowOf format) (aspects .0) ⌝ }
+    ensures { λ r. ⌜ r ≡ bytesOf (formatRow format) (aspects .0) ⌝ }
 {
     let bits = aspects.0;
     if bits == FormatAspects::COLOR.0 {

@@ -108,9 +108,9 @@ pub fn physical_size(e: Extent3d, block_width: u32, block_height: u32) -> Extent
 pub fn is_empty(size: Extent3d) -> bool
     ensures { λ r. ⌜ r ≡ isEmpty size ⌝ }
 {
-    checks::either(
+    conditions::either(
         size.width == 0,
-        checks::either(size.height == 0, size.depth_or_array_layers == 0),
+        conditions::either(size.height == 0, size.depth_or_array_layers == 0),
     )
 }
 

@@ -7,15 +7,15 @@ use Prim.Native.Nat.{ℕ, _%_, _≤_, _<_, _^_}
 use native.Mathlib.Omega.{arith}
 use lib.Dec.{eqb, leb}
 use borrow.Author.Tests.{leb-true, eqb-true}
-use Rattle.checks.specs.Checks.{every}
-use Rattle.checks.proofs.Rules.{both-true, all-true}
+use Rattle.conditions.specs.Conditions.{every}
+use Rattle.conditions.proofs.Rules.{both-true, all-true}
 use Rattle.measures.specs.declared.Extent3d.{Extent3d}
 use Rattle.measures.specs.Measure.{multiple}
-use Rattle.levels.specs.declared.TextureDimension.{TextureDimension}
-use Rattle.levels.specs.declared.TextureDimension.the-variants.{D1, D2, D3}
-use Rattle.levels.specs.Level.{dimensionOf, mipLevelSize}
-use Rattle.levels.proofs.Halving.{level-laws}
-use Rattle.formats.specs.Sheet.{isFormat, blockWidth, blockHeight}
+use Rattle.mip_levels.specs.declared.TextureDimension.{TextureDimension}
+use Rattle.mip_levels.specs.declared.TextureDimension.the-variants.{D1, D2, D3}
+use Rattle.mip_levels.specs.Level.{textureDimension, mipLevelSize}
+use Rattle.mip_levels.proofs.Halving.{level-laws}
+use Rattle.formats.specs.Table.{isFormat, blockWidth, blockHeight}
 use Rattle.records.specs.declared.Buffer.{Buffer}
 use Rattle.records.specs.declared.Texture.{Texture}
 use Rattle.records.specs.Limits.{maxBufferSize, maxSide, maxSide3d, maxLayers, maxLevels, maxTextureUsage}
@@ -109,8 +109,8 @@ level-sized D3 e level s =
 
 -- the tests that a texture within its bounds passes, by name
 record Passed (t : Texture) : Type 0 where
-  size : sizeInBounds (dimensionOf (t .dimension)) (t .size) ≡ true
-  levels : levelsInBounds (dimensionOf (t .dimension)) (t .size) (t .«mip_level_count») ≡ true
+  size : sizeInBounds (textureDimension (t .dimension)) (t .size) ≡ true
+  levels : levelsInBounds (textureDimension (t .dimension)) (t .size) (t .«mip_level_count») ≡ true
   sides : sidesWhole (t .format) (t .size) ≡ true
 
 passed : (t : Texture) → textureInBounds t ≡ true → Passed t
@@ -122,8 +122,8 @@ passed t b =
     all-true
     (isFormat (t .format)
     ∷ within 1 (t .dimension) 3
-    ∷ sizeInBounds (dimensionOf (t .dimension)) (t .size)
-    ∷ levelsInBounds (dimensionOf (t .dimension)) (t .size) (t .«mip_level_count»)
+    ∷ sizeInBounds (textureDimension (t .dimension)) (t .size)
+    ∷ levelsInBounds (textureDimension (t .dimension)) (t .size) (t .«mip_level_count»)
     ∷ leb (t .usage .0) maxTextureUsage
     ∷ [])
     (all .0)
@@ -148,12 +148,12 @@ pub texture-laws : (t : Texture) → textureInBounds t ≡ true → TextureLaws 
 unfolding logicalExtent
 texture-laws t b =
     let p = passed t b in
-    let s = sized (dimensionOf (t .dimension)) (t .size) (p .size) in
-    let l = counted (dimensionOf (t .dimension)) (t .size) (t .«mip_level_count») s (p .levels) in
+    let s = sized (textureDimension (t .dimension)) (t .size) (p .size) in
+    let l = counted (textureDimension (t .dimension)) (t .size) (t .«mip_level_count») s (p .levels) in
     let w = whole (t .format) (t .size) (p .sides) in
     record {
       sized = s;
-      level-sized = λ level. level-sized (dimensionOf (t .dimension)) (t .size) level s;
+      level-sized = λ level. level-sized (textureDimension (t .dimension)) (t .size) level s;
       levels-some = l .0;
       levels-few = l .1;
       width-whole = w .0;

@@ -4,7 +4,7 @@ use mathlib.Core.Path.{_≡_, sym, _∙_}
 use mathlib.Core.Bool.{Bool, true, false, not}
 use mathlib.Core.List.{[], flatten}
 use borrow.Author.Tests.{not-true, not-false}
-use Rattle.checks.proofs.Rules.{not-no, and-lines}
+use Rattle.conditions.proofs.Rules.{not-no, and-lines}
 use Rattle.refusals.specs.declared.CopySide.{CopySide}
 use Rattle.refusals.specs.declared.TransferError.the-variants.{InvalidTextureRecord}
 use Rattle.refusals.specs.declared.Checked.{Checked}

@@ -3,13 +3,13 @@ use Prim.Native.Nat.{ℕ, max}
 use mathlib.Core.Bool.{Bool, true, not, _&&_, _||_}
 use mathlib.Core.List.{[], _∷_, flatten}
 use lib.Dec.{eqb, leb}
-use Rattle.checks.specs.Checks.{every}
+use Rattle.conditions.specs.Conditions.{every}
 use Rattle.measures.specs.declared.Extent3d.{Extent3d}
 use Rattle.measures.specs.Measure.{multiple}
-use Rattle.levels.specs.declared.TextureDimension.{TextureDimension}
-use Rattle.levels.specs.declared.TextureDimension.the-variants.{D1, D2, D3}
-use Rattle.levels.specs.Level.{dimensionOf, maxMipLevels}
-use Rattle.formats.specs.Sheet.{isFormat, isMultiPlanar, blockWidth, blockHeight}
+use Rattle.mip_levels.specs.declared.TextureDimension.{TextureDimension}
+use Rattle.mip_levels.specs.declared.TextureDimension.the-variants.{D1, D2, D3}
+use Rattle.mip_levels.specs.Level.{textureDimension, maxMipLevels}
+use Rattle.formats.specs.Table.{isFormat, isMultiPlanar, blockWidth, blockHeight}
 use Rattle.refusals.specs.declared.CopySide.{CopySide}
 use Rattle.refusals.specs.declared.CopySide.the-variants.{Source, Destination}
 use Rattle.refusals.specs.declared.TransferError.the-variants.{InvalidBufferRecord, InvalidTextureRecord}
@@ -82,8 +82,8 @@ fieldsInBounds t =
     every
     (isFormat (t .format)
     ∷ within 1 (t .dimension) 3
-    ∷ sizeInBounds (dimensionOf (t .dimension)) (t .size)
-    ∷ levelsInBounds (dimensionOf (t .dimension)) (t .size) (t .«mip_level_count»)
+    ∷ sizeInBounds (textureDimension (t .dimension)) (t .size)
+    ∷ levelsInBounds (textureDimension (t .dimension)) (t .size) (t .«mip_level_count»)
     ∷ leb (t .usage .0) maxTextureUsage
     ∷ [])
 

@@ -3,7 +3,7 @@ use mathlib.Core.Path.{_≡_}
 use mathlib.Core.Bool.{true}
 use Prim.Native.Nat.{ℕ, _%_, _≤_, _<_}
 use Rattle.measures.specs.declared.Extent3d.{Extent3d}
-use Rattle.formats.specs.Sheet.{blockWidth, blockHeight}
+use Rattle.formats.specs.Table.{blockWidth, blockHeight}
 use Rattle.records.specs.declared.Buffer.{Buffer}
 use Rattle.records.specs.declared.Texture.{Texture}
 use Rattle.records.specs.Limits.{maxBufferSize, maxSide, maxSide3d, maxLevels}

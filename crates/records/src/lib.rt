@@ -2,7 +2,7 @@
 ghost use mathlib.Core.Path.{_≡_};
 ghost use mathlib.Core.Bool.{true, _&&_};
 ghost use Prim.Native.Nat.{max};
-ghost use Rattle.levels.specs.Level.{dimensionOf};
+ghost use Rattle.mip_levels.specs.Level.{textureDimension};
 ghost use Rattle.refusals.specs.Order.{checked};
 ghost use Rattle.records.specs.Bounds.{within, bufferInBounds, sizeInBounds, mipSide, levelsInBounds, mayBeMultisampled, fourSamples, samplesInBounds, dimensionSuits, sidesWhole, evenSides, planesSuit, fieldsInBounds, formatSuits, textureInBounds, bufferChecks, textureChecks, bothTextureChecks};
 ghost use Rattle.records.specs.Extents.{logicalExtent, physicalExtent};
@@ -10,10 +10,10 @@ ghost use Rattle.records.specs.Laws.{RecordLaws};
 use flags::BufferUsages;
 use flags::TextureUsages;
 use formats::TextureAspect;
-use levels::TextureDimension;
 use measures::Extent3d;
 use measures::OptionU32;
 use measures::Origin3d;
+use mip_levels::TextureDimension;
 use refusals::Checked;
 use refusals::CopySide;
 use refusals::TransferError;
@@ -83,14 +83,14 @@ fn larger(a: u32, b: u32) -> u32
 fn is_within(least: u32, n: u32, most: u32) -> bool
     ensures { λ r. ⌜ r ≡ within least n most ⌝ }
 {
-    checks::both(least <= n, n <= most)
+    conditions::both(least <= n, n <= most)
 }
 
 fn buffer_in_bounds(b: Buffer) -> bool
     ensures { λ r. ⌜ r ≡ bufferInBounds b ⌝ }
 {
     let usage = b.usage;
-    checks::both(b.size <= MAX_BUFFER_SIZE, usage.0 <= MAX_BUFFER_USAGE)
+    conditions::both(b.size <= MAX_BUFFER_SIZE, usage.0 <= MAX_BUFFER_USAGE)
 }
 
 fn size_in_bounds(dimension: TextureDimension, e: Extent3d) -> bool
@@ -99,14 +99,14 @@ fn size_in_bounds(dimension: TextureDimension, e: Extent3d) -> bool
     let depth = e.depth_or_array_layers;
     match dimension {
         TextureDimension::D1 => {
-            checks::all_three(is_within(1, e.width, MAX_SIDE), e.height == 1, depth == 1)
+            conditions::all_three(is_within(1, e.width, MAX_SIDE), e.height == 1, depth == 1)
         }
-        TextureDimension::D2 => checks::all_three(
+        TextureDimension::D2 => conditions::all_three(
             is_within(1, e.width, MAX_SIDE),
             is_within(1, e.height, MAX_SIDE),
             is_within(1, depth, MAX_LAYERS),
         ),
-        TextureDimension::D3 => checks::all_three(
+        TextureDimension::D3 => conditions::all_three(
             is_within(1, e.width, MAX_SIDE_3D),
             is_within(1, e.height, MAX_SIDE_3D),
             is_within(1, depth, MAX_SIDE_3D),
@@ -129,21 +129,21 @@ fn mip_side(dimension: TextureDimension, e: Extent3d) -> u32
 fn levels_in_bounds(dimension: TextureDimension, e: Extent3d, levels: u32) -> bool
     ensures { λ r. ⌜ r ≡ levelsInBounds dimension e levels ⌝ }
 {
-    levels::may_have_levels(mip_side(dimension, e), levels)
+    mip_levels::may_have_levels(mip_side(dimension, e), levels)
 }
 
 fn has_size_in_bounds(t: Texture) -> bool
-    ensures { λ r. ⌜ r ≡ sizeInBounds (dimensionOf (t .dimension)) (t .size) ⌝ }
+    ensures { λ r. ⌜ r ≡ sizeInBounds (textureDimension (t .dimension)) (t .size) ⌝ }
 {
     let size = t.size;
-    size_in_bounds(levels::texture_dimension(t.dimension), size)
+    size_in_bounds(mip_levels::texture_dimension(t.dimension), size)
 }
 
 fn has_levels_in_bounds(t: Texture) -> bool
-    ensures { λ r. ⌜ r ≡ levelsInBounds (dimensionOf (t .dimension)) (t .size) (t .«mip_level_count») ⌝ }
+    ensures { λ r. ⌜ r ≡ levelsInBounds (textureDimension (t .dimension)) (t .size) (t .«mip_level_count») ⌝ }
 {
     let size = t.size;
-    let dimension = levels::texture_dimension(t.dimension);
+    let dimension = mip_levels::texture_dimension(t.dimension);
     levels_in_bounds(dimension, size, t.mip_level_count)
 }
 
@@ -170,14 +170,14 @@ fn fields_in_bounds(t: Texture) -> bool
 fn may_be_multisampled(format: u32) -> bool
     ensures { λ r. ⌜ r ≡ mayBeMultisampled format ⌝ }
 {
-    checks::either(format <= 10, is_within(15, format, 20))
+    conditions::either(format <= 10, is_within(15, format, 20))
 }
 
 fn has_four_samples(t: Texture) -> bool
     ensures { λ r. ⌜ r ≡ fourSamples t ⌝ }
 {
     let size = t.size;
-    checks::all_five(
+    conditions::all_five(
         t.sample_count == 4,
         t.dimension == 2,
         size.depth_or_array_layers == 1,
@@ -199,14 +199,14 @@ fn samples_in_bounds(t: Texture) -> bool
 fn dimension_suits(format: u32, dimension: u32) -> bool
     ensures { λ r. ⌜ r ≡ dimensionSuits format dimension ⌝ }
 {
-    checks::either(format <= 10, dimension == 2)
+    conditions::either(format <= 10, dimension == 2)
 }
 
 fn sides_whole(format: u32, e: Extent3d) -> bool
     ensures { λ r. ⌜ r ≡ sidesWhole format e ⌝ }
 {
     let block = formats::block_dimensions(format);
-    checks::both(
+    conditions::both(
         measures::is_multiple_of(e.width, block.width),
         measures::is_multiple_of(e.height, block.height),
     )
@@ -216,7 +216,7 @@ fn has_even_sides(t: Texture) -> bool
     ensures { λ r. ⌜ r ≡ evenSides t ⌝ }
 {
     let size = t.size;
-    checks::all_three(
+    conditions::all_three(
         measures::is_multiple_of(size.width, 2),
         measures::is_multiple_of(size.height, 2),
         t.mip_level_count == 1,
@@ -315,7 +315,7 @@ pub fn logical_extent(t: Texture, level: u32) -> Extent3d
     ensures { λ r. ⌜ r ≡ logicalExtent t level ⌝ }
 {
     let size = t.size;
-    levels::mip_level_size(levels::texture_dimension(t.dimension), size, level)
+    mip_levels::mip_level_size(mip_levels::texture_dimension(t.dimension), size, level)
 }
 
 // The physical extent of a level: its width and height rounded up to blocks.

@@ -7,8 +7,8 @@ use Prim.Native.Nat.{ℕ, zero, suc}
 use native.Mathlib.Omega.{arith}
 use lib.ListN.{getD}
 use borrow.Author.Tests.{lt-ltb, le-ltb, le-leb, lt-leb, eq-eqb, ne-eqb}
-use Rattle.checks.specs.Checks.{stop-if}
-use Rattle.checks.proofs.Rules.{not-yes, not-no}
+use Rattle.conditions.specs.Conditions.{stop-if}
+use Rattle.conditions.proofs.Rules.{not-yes, not-no}
 use Rattle.refusals.specs.declared.TransferError.{TransferError}
 use Rattle.refusals.specs.declared.Checked.{Checked}
 use Rattle.refusals.specs.declared.Checked.the-variants as C

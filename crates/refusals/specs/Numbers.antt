@@ -13,10 +13,10 @@ unfoldable pub sideOf : CopySide → ℕ
 sideOf Source = 1
 sideOf Destination = 2
 
-unfoldable pub dimensionOf : TextureErrorDimension → ℕ
-dimensionOf X = 1
-dimensionOf Y = 2
-dimensionOf Z = 3
+unfoldable pub dimensionNumber : TextureErrorDimension → ℕ
+dimensionNumber X = 1
+dimensionNumber Y = 2
+dimensionNumber Z = 3
 
 abbrev pub six : ℕ → ℕ → ℕ → ℕ → ℕ → ℕ → Refusal
 six number side dimension start end limit =
@@ -31,8 +31,8 @@ numbersOf (E.MissingBufferUsage s) = six 5 (sideOf s) 0 0 0 0
 numbersOf (E.MissingTextureUsage s) = six 6 (sideOf s) 0 0 0 0
 numbersOf (E.BufferStartOffsetOverrun start size s) = six 7 (sideOf s) 0 start 0 size
 numbersOf (E.BufferEndOffsetOverrun start bytes size s) = six 8 (sideOf s) 0 start bytes size
-numbersOf (E.TextureOverrun start end size d s) = six 9 (sideOf s) (dimensionOf d) start end size
-numbersOf (E.UnsupportedPartialTransfer format samples start end size d s) = six 10 (sideOf s) (dimensionOf d) start end size
+numbersOf (E.TextureOverrun start end size d s) = six 9 (sideOf s) (dimensionNumber d) start end size
+numbersOf (E.UnsupportedPartialTransfer format samples start end size d s) = six 10 (sideOf s) (dimensionNumber d) start end size
 numbersOf (E.InvalidCopyWithinSameTexture from to z z′ layers) = six 11 0 0 z z′ layers
 numbersOf (E.InvalidTextureAspect format aspect) = six 12 0 0 0 0 0
 numbersOf (E.InvalidTextureMipLevel level total) = six 13 0 0 level 0 total

@@ -1,6 +1,6 @@
 // Why a copy is refused, and the six numbers that say so.
 ghost use mathlib.Core.Path.{_≡_};
-ghost use Rattle.refusals.specs.Numbers.{numbersOf, sideOf, dimensionOf, six};
+ghost use Rattle.refusals.specs.Numbers.{numbersOf, sideOf, dimensionNumber, six};
 use formats::TextureAspect;
 
 pub enum CopySide {
@@ -151,7 +151,7 @@ fn side_number(side: CopySide) -> u32
 }
 
 fn dimension_number(dimension: TextureErrorDimension) -> u32
-    ensures { λ r. ⌜ r ≡ dimensionOf dimension ⌝ }
+    ensures { λ r. ⌜ r ≡ dimensionNumber dimension ⌝ }
 {
     match dimension {
         TextureErrorDimension::X => 1,
@@ -213,7 +213,7 @@ fn ranged(
     end: u64,
     limit: u32,
 ) -> Refusal
-    ensures { λ r. ⌜ r ≡ six number (sideOf side) (dimensionOf dimension) start end limit ⌝ }
+    ensures { λ r. ⌜ r ≡ six number (sideOf side) (dimensionNumber dimension) start end limit ⌝ }
 {
     Refusal {
         number,

@@ -6,7 +6,7 @@ use mathlib.Core.List.{List, [], _∷_, flatten}
 use Prim.Native.Nat.{ℕ}
 use native.Mathlib.Omega.{arith}
 use borrow.Author.Tests.{not-false}
-use Rattle.checks.proofs.Rules.{flag-lines}
+use Rattle.conditions.proofs.Rules.{flag-lines}
 use Rattle.refusals.specs.declared.CopySide.{CopySide}
 use Rattle.refusals.specs.declared.TransferError.{TransferError}
 use Rattle.refusals.specs.declared.Checked.{Checked}
@@ -16,16 +16,16 @@ use Rattle.refusals.proofs.Order.{first-of-all, none-found, test-fails}
 use Rattle.records.specs.declared.Buffer.{Buffer}
 use Rattle.records.specs.declared.Texture.{Texture}
 use Rattle.records.specs.Bounds.{bufferInBounds, textureInBounds, bufferChecks, textureChecks}
-use Rattle.ranges.specs.declared.CopyExtent.{CopyExtent}
-use Rattle.ranges.specs.declared.RangeChecked.{RangeChecked}
-use Rattle.ranges.specs.declared.RangeChecked.the-variants as R
-use Rattle.linear.specs.declared.LinearData.{LinearData}
-use Rattle.linear.specs.declared.LinearChecked.{LinearChecked}
-use Rattle.linear.specs.declared.LinearChecked.the-variants as L
-use Rattle.selectors.specs.declared.TextureSelector.{TextureSelector}
-use Rattle.selectors.specs.declared.TextureCopyBase.{TextureCopyBase}
-use Rattle.selectors.specs.declared.SelectorChecked.{SelectorChecked}
-use Rattle.selectors.specs.declared.SelectorChecked.the-variants as S
+use Rattle.rule_copy_range.specs.declared.CopyExtent.{CopyExtent}
+use Rattle.rule_copy_range.specs.declared.RangeChecked.{RangeChecked}
+use Rattle.rule_copy_range.specs.declared.RangeChecked.the-variants as R
+use Rattle.rule_linear_data.specs.declared.LinearData.{LinearData}
+use Rattle.rule_linear_data.specs.declared.LinearChecked.{LinearChecked}
+use Rattle.rule_linear_data.specs.declared.LinearChecked.the-variants as L
+use Rattle.rule_selectors.specs.declared.TextureSelector.{TextureSelector}
+use Rattle.rule_selectors.specs.declared.TextureCopyBase.{TextureCopyBase}
+use Rattle.rule_selectors.specs.declared.SelectorChecked.{SelectorChecked}
+use Rattle.rule_selectors.specs.declared.SelectorChecked.the-variants as S
 use Rattle.rule_answers.specs.Answers.{HandsUp}
 use Rattle.rule_answers.specs.Stages.{after, after-range, after-selector, after-linear}
 

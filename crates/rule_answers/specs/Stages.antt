@@ -4,15 +4,15 @@ use Prim.Native.Nat.{ℕ}
 use Rattle.refusals.specs.declared.TransferError.{TransferError}
 use Rattle.refusals.specs.declared.Checked.{Checked}
 use Rattle.refusals.specs.declared.Checked.the-variants as C
-use Rattle.ranges.specs.declared.CopyExtent.{CopyExtent}
-use Rattle.ranges.specs.declared.RangeChecked.{RangeChecked}
-use Rattle.ranges.specs.declared.RangeChecked.the-variants as R
-use Rattle.linear.specs.declared.LinearData.{LinearData}
-use Rattle.linear.specs.declared.LinearChecked.{LinearChecked}
-use Rattle.linear.specs.declared.LinearChecked.the-variants as L
-use Rattle.selectors.specs.declared.TextureCopyBase.{TextureCopyBase}
-use Rattle.selectors.specs.declared.SelectorChecked.{SelectorChecked}
-use Rattle.selectors.specs.declared.SelectorChecked.the-variants as S
+use Rattle.rule_copy_range.specs.declared.CopyExtent.{CopyExtent}
+use Rattle.rule_copy_range.specs.declared.RangeChecked.{RangeChecked}
+use Rattle.rule_copy_range.specs.declared.RangeChecked.the-variants as R
+use Rattle.rule_linear_data.specs.declared.LinearData.{LinearData}
+use Rattle.rule_linear_data.specs.declared.LinearChecked.{LinearChecked}
+use Rattle.rule_linear_data.specs.declared.LinearChecked.the-variants as L
+use Rattle.rule_selectors.specs.declared.TextureCopyBase.{TextureCopyBase}
+use Rattle.rule_selectors.specs.declared.SelectorChecked.{SelectorChecked}
+use Rattle.rule_selectors.specs.declared.SelectorChecked.the-variants as S
 
 unfoldable pub after : {A : Type 0} → Checked → (TransferError → A) → A → A
 after C.GoOn refused rest = rest
@@ -27,5 +27,5 @@ after-selector (S.GoOn selector base) refused rest = rest base
 after-selector (S.Refused e) refused rest = refused e
 
 unfoldable pub after-linear : {A : Type 0} → LinearChecked → (TransferError → A) → (LinearData → A) → A
-after-linear (L.GoOn span) refused rest = rest span
+after-linear (L.GoOn info) refused rest = rest info
 after-linear (L.Refused e) refused rest = refused e

@@ -1,10 +1,10 @@
 // The refusal of a rule's answer, for the copies that hand it up.
 ghost use Rattle.rule_answers.specs.Answers.{HandsUp};
-use linear::LinearChecked;
-use ranges::RangeChecked;
 use refusals::Checked;
 use refusals::TransferError;
-use selectors::SelectorChecked;
+use rule_copy_range::RangeChecked;
+use rule_linear_data::LinearChecked;
+use rule_selectors::SelectorChecked;
 
 pub fn why(answer: Checked) -> TransferError
     ensures { λ r. ⌜ HandsUp Checked.Refused answer r ⌝ }

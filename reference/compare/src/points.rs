@@ -323,7 +323,7 @@ mod tests {
 /// The starred points as the proofs have them: each sheet, and the listing that
 /// is proved of it.
 pub fn starred_points() -> Vec<(Vec<u8>, Vec<u8>)> {
-    const LIST: &str = include_str!("../../../crates/points/specs/Points.antt");
+    const LIST: &str = include_str!("../../../crates/claim_points/specs/Points.antt");
     let texts = |field: &str| -> Vec<Vec<u8>> {
         let start = format!("{field} = \"");
         LIST.lines()

@@ -3,7 +3,7 @@
 
 use sheet_compare::{reference_listing, replay_text, starred_points, Item};
 
-const LIST: &[u8] = include_bytes!("../../../crates/replay/stdin");
+const LIST: &[u8] = include_bytes!("../../../crates/sheet_replay/stdin");
 
 #[test]
 fn there_are_as_many_as_in_the_list() {

@@ -2,7 +2,7 @@
 -- Assumes nothing.
 use borrow.Author.Needs.{needs}
 use mathlib.Core.Path.{ap, _∙_}
-use Rattle.words.specs.Words.{buffersNumber, buffersPlan, buffersRanges}
+use Rattle.c_words.specs.Words.{buffersNumber, buffersPlan, buffersRanges}
 use Rattle.c_buffers.proofs.copy_planner_buffer_to_buffer.Statement.{statement}
 use Rattle.c_buffers.proofs.copy_planner_buffer_to_buffer.Tie as tie
 

@@ -2,7 +2,7 @@
 -- Assumes nothing.
 use borrow.Author.Needs.{needs}
 use mathlib.Core.Path.{ap, _∙_}
-use Rattle.words.specs.Words.{copyNumber, copyPlan, copyRangesOf}
+use Rattle.c_words.specs.Words.{copyNumber, copyPlan, copyRangesOf}
 use Rattle.c_downloads.proofs.copy_planner_texture_to_buffer.Statement.{statement}
 use Rattle.c_downloads.proofs.copy_planner_texture_to_buffer.Tie as tie
 

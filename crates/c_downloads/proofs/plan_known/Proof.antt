@@ -8,7 +8,7 @@ use Rattle.records.specs.declared.Buffer.{Buffer}
 use Rattle.records.specs.declared.Texture.{Texture}
 use Rattle.records.specs.declared.TexelCopyBufferLayout.{TexelCopyBufferLayout}
 use Rattle.records.specs.declared.TexelCopyTextureInfo.{TexelCopyTextureInfo}
-use Rattle.buffer_texture.specs.Plan.{textureToBuffer}
+use Rattle.copy_buffer_texture.specs.Plan.{textureToBuffer}
 use Rattle.c_downloads.proofs.plan_known.Statement.{statement}
 use Rattle.c_downloads.proofs.plan_known.Tie as tie
 

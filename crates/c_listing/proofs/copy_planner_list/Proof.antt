@@ -2,7 +2,7 @@
 -- Assumes nothing.
 use native.Mathlib.Omega.{arith}
 use lib.ListN.{length}
-use Rattle.listing.specs.Listing.{restOf, listingOf}
+use Rattle.sheet_listing.specs.Listing.{restOf, listingOf}
 use Rattle.c_listing.proofs.Parts.{Putting, putting-starts, putting-same, putting-ends, putting-less, putting-on}
 use borrow.Author.Needs.{needs}
 use Rattle.c_listing.proofs.copy_planner_list.Statement.{statement}

@@ -2,8 +2,8 @@
 -- Assumes nothing.
 use mathlib.Core.Path.{ap, _∙_}
 use borrow.Author.Needs.{needs}
-use Rattle.plans.specs.declared.Plan.the-variants.{BufferTexture}
-use Rattle.plans.specs.Regions.{leftOf, fieldsOf}
+use Rattle.plan_kinds.specs.declared.Plan.the-variants.{BufferTexture}
+use Rattle.plan_kinds.specs.Regions.{leftOf, fieldsOf}
 use Rattle.c_regions.specs.Regions.{wordsOf}
 use Rattle.c_regions.proofs.Answers.{too-short, written}
 use Rattle.c_regions.proofs.copy_planner_write_buffer_texture_copies.Statement.{statement}

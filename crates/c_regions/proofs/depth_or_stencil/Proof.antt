@@ -1,6 +1,6 @@
 -- `depth_or_stencil` meets its contract.
 -- Assumes nothing.
-use Rattle.checks.proofs.Rules.{tests}
+use Rattle.conditions.proofs.Rules.{tests}
 use Rattle.c_regions.specs.Regions.{depthOrStencil}
 use Rattle.c_regions.proofs.depth_or_stencil.Statement.{statement}
 use Rattle.c_regions.proofs.depth_or_stencil.Tie as tie

@@ -1,6 +1,6 @@
 -- `part_follows` meets its contract.
 -- Assumes nothing.
-use Rattle.checks.proofs.Rules.{tests}
+use Rattle.conditions.proofs.Rules.{tests}
 use Rattle.c_regions.specs.Regions.{partFollows}
 use Rattle.c_regions.proofs.part_follows.Statement.{statement}
 use Rattle.c_regions.proofs.part_follows.Tie as tie

@@ -2,7 +2,7 @@
 -- Assumes nothing.
 use borrow.Author.Needs.{needs}
 use mathlib.Core.Path.{ap, _∙_}
-use Rattle.words.specs.Words.{texturesNumber, texturesPlan, texturesRanges}
+use Rattle.c_words.specs.Words.{texturesNumber, texturesPlan, texturesRanges}
 use Rattle.c_textures.proofs.copy_planner_texture_to_texture.Statement.{statement}
 use Rattle.c_textures.proofs.copy_planner_texture_to_texture.Tie as tie
 

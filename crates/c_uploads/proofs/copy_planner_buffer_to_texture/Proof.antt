@@ -2,7 +2,7 @@
 -- Assumes nothing.
 use borrow.Author.Needs.{needs}
 use mathlib.Core.Path.{ap, _∙_}
-use Rattle.words.specs.Words.{copyNumber, copyPlan, copyRangesOf}
+use Rattle.c_words.specs.Words.{copyNumber, copyPlan, copyRangesOf}
 use Rattle.c_uploads.proofs.copy_planner_buffer_to_texture.Statement.{statement}
 use Rattle.c_uploads.proofs.copy_planner_buffer_to_texture.Tie as tie
 

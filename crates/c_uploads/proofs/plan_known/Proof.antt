@@ -8,7 +8,7 @@ use Rattle.records.specs.declared.Buffer.{Buffer}
 use Rattle.records.specs.declared.Texture.{Texture}
 use Rattle.records.specs.declared.TexelCopyBufferLayout.{TexelCopyBufferLayout}
 use Rattle.records.specs.declared.TexelCopyTextureInfo.{TexelCopyTextureInfo}
-use Rattle.buffer_texture.specs.Plan.{bufferToTexture}
+use Rattle.copy_buffer_texture.specs.Plan.{bufferToTexture}
 use Rattle.c_uploads.proofs.plan_known.Statement.{statement}
 use Rattle.c_uploads.proofs.plan_known.Tie as tie
 

@@ -4,7 +4,7 @@ use mathlib.Core.Path.{sym, ap}
 use mathlib.Core.List.{[], _∷_}
 use Prim.Native.Nat.{_≤_}
 use lib.ListN.{List·getD-eq-default}
-use Rattle.checks.proofs.Tables.{past-arms}
+use Rattle.conditions.proofs.Tables.{past-arms}
 use Rattle.formats.specs.declared.TextureAspect.the-variants.{All, StencilOnly, DepthOnly, Plane0, Plane1, Plane2}
 use Rattle.formats.specs.Aspects.{aspectOf}
 use Rattle.formats.proofs.aspect_of.Statement.{statement}

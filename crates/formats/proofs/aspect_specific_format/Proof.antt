@@ -1,7 +1,7 @@
 -- `aspect_specific_format` meets its contract.
 -- Assumes nothing.
 use borrow.Author.Needs.{needs}
-use Rattle.checks.proofs.Rules.{flag-lines}
+use Rattle.conditions.proofs.Rules.{flag-lines}
 use Rattle.formats.specs.Aspects.{aspectSpecificFormat}
 use Rattle.formats.proofs.aspect_specific_format.Statement.{statement}
 use Rattle.formats.proofs.aspect_specific_format.Tie as tie

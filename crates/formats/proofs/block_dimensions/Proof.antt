@@ -1,7 +1,7 @@
 -- `block_dimensions` meets its contract.
 -- Assumes nothing.
 use borrow.Author.Needs.{needs}
-use Rattle.formats.specs.Sheet.{blockWidth, blockHeight}
+use Rattle.formats.specs.Table.{blockWidth, blockHeight}
 use Rattle.formats.proofs.block_dimensions.Statement.{statement}
 use Rattle.formats.proofs.block_dimensions.Tie as tie
 

@@ -1,7 +1,7 @@
 -- `bytes_of` meets its contract.
 -- Assumes nothing.
 use borrow.Author.Needs.{needs}
-use Rattle.checks.proofs.Rules.{lines}
+use Rattle.conditions.proofs.Rules.{lines}
 use Rattle.formats.specs.Aspects.{bytesOf}
 use Rattle.formats.proofs.bytes_of.Statement.{statement}
 use Rattle.formats.proofs.bytes_of.Tie as tie

@@ -1,7 +1,7 @@
 -- `format_aspects` meets its contract.
 -- Assumes nothing.
 use borrow.Author.Needs.{needs}
-use Rattle.formats.specs.Sheet.{aspectsOf}
+use Rattle.formats.specs.Table.{aspectsOf}
 use Rattle.formats.proofs.format_aspects.Statement.{statement}
 use Rattle.formats.proofs.format_aspects.Tie as tie
 

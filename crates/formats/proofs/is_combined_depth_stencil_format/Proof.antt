@@ -1,7 +1,7 @@
 -- `is_combined_depth_stencil_format` meets its contract.
 -- Assumes nothing.
 use borrow.Author.Needs.{needs}
-use Rattle.formats.specs.Sheet.{isCombinedDepthStencil}
+use Rattle.formats.specs.Table.{isCombinedDepthStencil}
 use Rattle.formats.proofs.is_combined_depth_stencil_format.Statement.{statement}
 use Rattle.formats.proofs.is_combined_depth_stencil_format.Tie as tie
 

@@ -1,7 +1,7 @@
 -- `is_depth_stencil_format` meets its contract.
 -- Assumes nothing.
-use Rattle.checks.proofs.Rules.{tests}
-use Rattle.formats.specs.Sheet.{isDepthStencil}
+use Rattle.conditions.proofs.Rules.{tests}
+use Rattle.formats.specs.Table.{isDepthStencil}
 use Rattle.formats.proofs.is_depth_stencil_format.Statement.{statement}
 use Rattle.formats.proofs.is_depth_stencil_format.Tie as tie
 

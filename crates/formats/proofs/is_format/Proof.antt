@@ -1,7 +1,7 @@
 -- `is_format` meets its contract.
 -- Assumes nothing.
-use Rattle.checks.proofs.Rules.{tests}
-use Rattle.formats.specs.Sheet.{formats, isFormat}
+use Rattle.conditions.proofs.Rules.{tests}
+use Rattle.formats.specs.Table.{formats, isFormat}
 use Rattle.formats.proofs.is_format.Statement.{statement}
 use Rattle.formats.proofs.is_format.Tie as tie
 

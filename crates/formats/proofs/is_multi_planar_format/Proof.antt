@@ -1,7 +1,7 @@
 -- `is_multi_planar_format` meets its contract.
 -- Assumes nothing.
-use Rattle.checks.proofs.Rules.{tests}
-use Rattle.formats.specs.Sheet.{isMultiPlanar}
+use Rattle.conditions.proofs.Rules.{tests}
+use Rattle.formats.specs.Table.{isMultiPlanar}
 use Rattle.formats.proofs.is_multi_planar_format.Statement.{statement}
 use Rattle.formats.proofs.is_multi_planar_format.Tie as tie
 

@@ -2,7 +2,7 @@
 -- Assumes nothing.
 use borrow.Author.Needs.{needs}
 use Rattle.formats.proofs.Rows.{srgb-fits}
-use Rattle.formats.specs.Sheet.{removeSrgb}
+use Rattle.formats.specs.Table.{removeSrgb}
 use Rattle.formats.proofs.remove_srgb_suffix.Statement.{statement}
 use Rattle.formats.proofs.remove_srgb_suffix.Tie as tie
 

@@ -1,7 +1,7 @@
 -- `fields_agree` meets its contract.
 -- Assumes nothing.
 use borrow.Author.Needs.{needs}
-use Rattle.checks.proofs.Rules.{and-lines}
+use Rattle.conditions.proofs.Rules.{and-lines}
 use Rattle.records.proofs.fields_agree.Statement.{statement}
 use Rattle.records.proofs.fields_agree.Tie as tie
 

@@ -1,7 +1,7 @@
 -- `fields_in_bounds` meets its contract.
 -- Assumes nothing.
 use borrow.Author.Needs.{needs}
-use Rattle.checks.proofs.Rules.{and-lines}
+use Rattle.conditions.proofs.Rules.{and-lines}
 use Rattle.records.specs.Bounds.{fieldsInBounds}
 use Rattle.records.proofs.fields_in_bounds.Statement.{statement}
 use Rattle.records.proofs.fields_in_bounds.Tie as tie

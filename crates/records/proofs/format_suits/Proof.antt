@@ -1,7 +1,7 @@
 -- `format_suits` meets its contract.
 -- Assumes nothing.
 use borrow.Author.Needs.{needs}
-use Rattle.checks.proofs.Rules.{and-lines}
+use Rattle.conditions.proofs.Rules.{and-lines}
 use Rattle.records.specs.Bounds.{formatSuits}
 use Rattle.records.proofs.format_suits.Statement.{statement}
 use Rattle.records.proofs.format_suits.Tie as tie

@@ -1,7 +1,7 @@
 -- `planes_suit` meets its contract.
 -- Assumes nothing.
 use borrow.Author.Needs.{needs}
-use Rattle.checks.proofs.Rules.{or-lines}
+use Rattle.conditions.proofs.Rules.{or-lines}
 use Rattle.records.specs.Bounds.{planesSuit}
 use Rattle.records.proofs.planes_suit.Statement.{statement}
 use Rattle.records.proofs.planes_suit.Tie as tie

@@ -1,7 +1,7 @@
 -- `samples_in_bounds` meets its contract.
 -- Assumes nothing.
 use borrow.Author.Needs.{needs}
-use Rattle.checks.proofs.Rules.{or-lines}
+use Rattle.conditions.proofs.Rules.{or-lines}
 use Rattle.records.specs.Bounds.{samplesInBounds}
 use Rattle.records.proofs.samples_in_bounds.Statement.{statement}
 use Rattle.records.proofs.samples_in_bounds.Tie as tie

@@ -1,6 +1,6 @@
 -- `FormatAspects::is_one` meets its contract.
 -- Assumes nothing.
-use Rattle.checks.proofs.Rules.{tests}
+use Rattle.conditions.proofs.Rules.{tests}
 use Rattle.flags.specs.Flags.{isOne}
 use Rattle.flags.proofs.FormatAspects.is_one.Statement.{statement}
 use Rattle.flags.proofs.FormatAspects.is_one.Tie as tie

@@ -1,9 +1,0 @@
--- `ranges_of` meets its contract.
--- Assumes nothing.
-use Rattle.buffer_texture_plans.specs.Plan.{rangesOf}
-use Rattle.buffer_texture_plans.proofs.ranges_of.Statement.{statement}
-use Rattle.buffer_texture_plans.proofs.ranges_of.Tie as tie
-
-pub ranges-of-spec : {M : Type 1} → statement M
-unfolding rangesOf
-ranges-of-spec = tie.close (tie.spec (λ c. cc) (λ c. cc))

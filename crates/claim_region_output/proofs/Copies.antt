@@ -1,0 +1,174 @@
+-- The plan of an accepted copy of each kind.
+-- Assumes nothing.
+use Prim.{Unit, tt}
+use mathlib.Core.Path.{_≡_, refl, sym, _∙_}
+use mathlib.Core.Bool.{Bool, true, false, _||_}
+use mathlib.Core.List.{[], _∷_}
+use Prim.Native.Nat.{ℕ, _+_, _-_, _*_, _≤_, _<_}
+use native.Mathlib.Omega.{arith}
+use native.Mathlib.Nat.{mul-le-mul-right, min-le-left}
+use lib.Dec.{eqb}
+use borrow.Author.Tests.{eqb-false, ne-eqb}
+use Rattle.conditions.specs.Conditions.{pick}
+use Rattle.conditions.proofs.Rules.{neither}
+use Rattle.measures.specs.declared.Extent3d.{Extent3d}
+use Rattle.measures.specs.declared.OptionU64.{OptionU64}
+use Rattle.measures.specs.Measure.{isEmpty}
+use Rattle.mip_levels.specs.declared.TextureDimension.{TextureDimension}
+use Rattle.mip_levels.specs.declared.TextureDimension.the-variants.{D1, D2, D3}
+use Rattle.mip_levels.specs.Level.{textureDimension}
+use Rattle.records.specs.declared.Buffer.{Buffer}
+use Rattle.records.specs.declared.Device.{Device}
+use Rattle.records.specs.declared.Texture.{Texture}
+use Rattle.records.specs.declared.TexelCopyTextureInfo.{TexelCopyTextureInfo}
+use Rattle.records.specs.declared.TexelCopyBufferLayout.{TexelCopyBufferLayout}
+use Rattle.records.proofs.Bounded.{buffer-laws}
+use Rattle.rule_copy_range.specs.declared.CopyExtent.{CopyExtent}
+use Rattle.rule_copy_range.specs.Range.{layersOf, arrayLayerCount}
+use Rattle.rule_linear_data.specs.Linear.{stacked, imageStride, dataOf, denseOf}
+use Rattle.rule_linear_data.specs.Laws.{LinearLaws}
+use Rattle.copy_buffers.specs.declared.BufferPlan.{BufferPlan}
+use Rattle.copy_buffers.specs.declared.BufferPlanned.{BufferPlanned}
+use Rattle.copy_buffers.specs.declared.BufferPlanned.the-variants as B
+use Rattle.copy_buffers.specs.BufferCopies as K
+use Rattle.copy_buffers.proofs.Accepted.{every-copy-law as buffers-law}
+use Rattle.plan_buffer_texture.specs.declared.BufferTexturePlan.{BufferTexturePlan}
+use Rattle.plan_buffer_texture.specs.Plan.{firstRegion, planOf}
+use Rattle.copy_buffer_texture.specs.declared.BufferTexturePlanned.{BufferTexturePlanned}
+use Rattle.copy_buffer_texture.specs.declared.BufferTexturePlanned.the-variants as U
+use Rattle.copy_buffer_texture.specs.Copy.{Direction, Upload, Download, Copy}
+use Rattle.copy_buffer_texture.specs.Plan.{dense, planFor, planned, bufferToTexture, textureToBuffer}
+use Rattle.copy_buffer_texture.specs.Laws.{Accepted}
+use Rattle.copy_buffer_texture.proofs.Accepted.{every-copy-law as copies-law, as-uploaded, as-downloaded}
+use Rattle.records.specs.declared.TextureSide.{TextureSide}
+use Rattle.plan_textures.specs.declared.TexturePlan.{TexturePlan}
+use Rattle.plan_textures.specs.Plan as X
+use Rattle.copy_textures.specs.declared.TexturePlanned.{TexturePlanned}
+use Rattle.copy_textures.specs.declared.TexturePlanned.the-variants as T
+use Rattle.copy_textures.specs.Copy as Y
+use Rattle.copy_textures.specs.Plan.{textureToTexture}
+use Rattle.copy_textures.proofs.Accepted.{every-copy-law as textures-law}
+use Rattle.claim_region_output.specs.Asking.{buffers}
+use Rattle.claim_region_output.specs.Numbers.{optional, sides, numbers}
+use Rattle.claim_region_output.proofs.Kept.{Small, FitBufferTexture, FitTextures}
+use Rattle.claim_region_output.proofs.Accepted.{Figures, base-small, extent-small}
+
+-- ---- between buffers
+
+unfoldable pub BuffersFit : BufferPlanned → Type 0
+BuffersFit (B.Plan p) = 0 < p .left → Small (numbers (buffers (p .region)))
+BuffersFit (B.Refused e) = Unit {0}
+
+buffers-by : (r : BufferPlanned) → ((p : BufferPlan) → r ≡ B.Plan p → 0 < p .left → Small (numbers (buffers (p .region)))) → BuffersFit r
+unfolding BuffersFit
+buffers-by (B.Plan p) h = h p refl
+buffers-by (B.Refused e) h = tt
+
+pub buffers-fit :
+    (device : Device) (i : ℕ) (src : Buffer) (from j : ℕ) (dst : Buffer) (to : ℕ) (size : OptionU64) → BuffersFit (K.bufferToBuffer device i src from j dst to size)
+unfolding K.bufferToBuffer K.planOf numbers
+buffers-fit device i src from j dst to size =
+    let c : K.Copy = record { device = device; src-index = i; src = src; src-offset = from; dst-index = j; dst = dst; dst-offset = to; size = size } in
+    buffers-by (K.bufferToBuffer device i src from j dst to size) λ p e some.
+    let a = buffers-law c .is-accepted p e in
+    let s = buffer-laws src (a .0 .src-bounds) in
+    let d = buffer-laws dst (a .0 .dst-bounds) in
+    rw (← a .1) (omega (arith, s, a .0 .src-inside), (omega (arith, d, a .0 .dst-inside), (omega (arith, s, a .0 .src-inside), tt)))
+
+-- ---- between a buffer and a texture
+
+unfoldable pub BufferTextureFit : BufferTexturePlanned → Type 0
+BufferTextureFit (U.Plan p) = 0 < p .left → FitBufferTexture p
+BufferTextureFit (U.Refused e) = Unit {0}
+
+copy-by : (r : BufferTexturePlanned) → ((p : BufferTexturePlan) → r ≡ U.Plan p → 0 < p .left → FitBufferTexture p) → BufferTextureFit r
+unfolding BufferTextureFit
+copy-by (U.Plan p) h = h p refl
+copy-by (U.Refused e) h = tt
+
+-- no more layers than images
+layers-few : (d : TextureDimension) (n : ℕ) → 0 < n → layersOf d n - 1 ≤ n - 1
+layers-few D1 n h = omega arith
+layers-few D2 n h = omega arith
+layers-few D3 n h = omega arith
+
+-- a copy that is not empty has an image
+image-some : (size : Extent3d) → isEmpty size ≡ false → 0 < size .«depth_or_array_layers»
+unfolding isEmpty
+image-some size e =
+    let tall = neither (eqb (size .width) 0) (eqb (size .height) 0 || eqb (size .«depth_or_array_layers») 0) e .1 in
+    let deep = neither (eqb (size .height) 0) (eqb (size .«depth_or_array_layers») 0) tall .1 in
+    let some : size .«depth_or_array_layers» ≡ 0 → ⊥ = eqb-false (size .«depth_or_array_layers») 0 deep in
+    omega arith
+
+not-empty : (t : Bool) (n : ℕ) → 0 < pick t 0 n → t ≡ false
+not-empty true n h = absurd (omega (arith, h))
+not-empty false n h = refl
+
+module _ (c : Copy) (f : Figures (c .view) (c .size)) (bytes : Small (optional (c .layout .«bytes_per_row») ∷ [])) (rows : Small (optional (c .layout .«rows_per_image») ∷ [])) where
+  abbrev images : ℕ
+  images = c .size .«depth_or_array_layers»
+
+  -- the last image lies inside the buffer
+  last-inside : LinearLaws (c .layout) (c .buffer .size) (dense c) → 0 < images → (n : ℕ) → n ≤ images - 1 → c .layout .offset + n * imageStride (c .layout) (dense c) ≤ c .buffer .size
+  unfolding stacked denseOf
+  last-inside l some n few =
+      let inside = l .inside in
+      let within = rw (ne-eqb images 0 (λ z. omega (arith, z, some))) at inside in
+      omega (arith, within, mul-le-mul-right (imageStride (c .layout) (dense c)) few)
+
+  plan-fits : Accepted c → 0 < planFor c .left → FitBufferTexture (planFor c)
+  unfolding planFor planOf firstRegion arrayLayerCount dataOf
+  plan-fits a left =
+      let full = not-empty (isEmpty (c .size)) _ left in
+      let some = image-some (c .size) full in
+      rw full
+      (record {
+        last = omega (arith, buffer-laws (c .buffer) (a .buffer-bounds), last-inside (a .linear) some _ (layers-few (textureDimension (c .texture .dimension)) images some));
+        bytes = bytes;
+        rows = rows;
+        base = base-small (c .view) (c .texture) (c .size) f;
+        size = extent-small (c .view) (c .texture) (c .size) f;
+      })
+
+  copy-fits : (r : BufferTexturePlanned) → r ≡ planned c → BufferTextureFit r
+  copy-fits r is = copy-by r λ p e left. let a = copies-law c .is-accepted p (sym is ∙ e) in rw (← a .1) (plan-fits (a .0) (rw (a .1) left))
+
+module _ (device : Device) (b : Buffer) (layout : TexelCopyBufferLayout) (t : Texture) (view : TexelCopyTextureInfo) (size : Extent3d)
+    (f : Figures view size) (bytes : Small (optional (layout .«bytes_per_row») ∷ [])) (rows : Small (optional (layout .«rows_per_image») ∷ [])) where
+  abbrev copyOf : Direction → Copy
+  copyOf way = record { direction = way; device = device; buffer = b; layout = layout; texture = t; view = view; size = size }
+
+  pub upload-fits : BufferTextureFit (bufferToTexture device b layout t view size)
+  upload-fits = copy-fits (copyOf Upload) f bytes rows _ (as-uploaded (copyOf Upload) refl)
+
+  pub download-fits : BufferTextureFit (textureToBuffer device t view b layout size)
+  download-fits = copy-fits (copyOf Download) f bytes rows _ (as-downloaded (copyOf Download) refl)
+
+-- ---- between textures
+
+unfoldable pub TexturesFit : TexturePlanned → Type 0
+TexturesFit (T.Plan p) = FitTextures p
+TexturesFit (T.Refused e) = Unit {0}
+
+textures-by : (r : TexturePlanned) → ((p : TexturePlan) → r ≡ T.Plan p → FitTextures p) → TexturesFit r
+unfolding TexturesFit
+textures-by (T.Plan p) h = h p refl
+textures-by (T.Refused e) h = tt
+
+lesser-small : (a b : CopyExtent) → Small (sides a) → Small (sides (X.lesser a b))
+unfolding X.lesser
+lesser-small a b h =
+    (omega (arith, min-le-left (a .width) (b .width), h .0), (omega (arith, min-le-left (a .height) (b .height), h .1 .0), (omega (arith, min-le-left (a .depth) (b .depth), h .1 .1 .0), tt)))
+
+pub textures-fit : (i : ℕ) (src : TextureSide) (j : ℕ) (dst : TextureSide) (size : Extent3d) → Figures (src .view) size → Figures (dst .view) size → TexturesFit (textureToTexture i src j dst size)
+unfolding Y.planFor X.planOf
+textures-fit i src j dst size f g =
+    textures-by (textureToTexture i src j dst size) λ p e.
+    let a = textures-law (Y.between i src j dst size) .is-accepted p e in
+    rw (← a .1)
+    (record {
+      src = base-small (src .view) (src .texture) size f;
+      dst = base-small (dst .view) (dst .texture) size g;
+      size = lesser-small _ _ (extent-small (src .view) (src .texture) size f);
+    })

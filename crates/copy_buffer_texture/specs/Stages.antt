@@ -1,0 +1,97 @@
+-- The same answers as the functions between the first check and the plan give them. Only the contracts of private functions cite this: no caller need
+-- read it.
+use Prim.Native.Nat.{ℕ}
+use mathlib.Core.Bool.{true, not}
+use lib.Dec.{leb}
+use Rattle.conditions.specs.Conditions.{stop-if, _$_}
+use Rattle.measures.specs.declared.Extent3d.{Extent3d}
+use Rattle.flags.specs.BufferUsages as BufferUsages
+use Rattle.flags.specs.TextureUsages as TextureUsages
+use Rattle.flags.specs.Flags.{contains}
+use Rattle.refusals.specs.declared.CopySide.the-variants.{Source, Destination}
+use Rattle.refusals.specs.declared.DownlevelFlags.the-variants.{DepthTextureAndBufferCopies}
+use Rattle.refusals.specs.declared.TransferError.the-variants as E
+use Rattle.refusals.specs.Order.{checked}
+use Rattle.records.specs.declared.Buffer.{Buffer}
+use Rattle.records.specs.declared.Device.{Device}
+use Rattle.records.specs.declared.Texture.{Texture}
+use Rattle.records.specs.declared.TexelCopyTextureInfo.{TexelCopyTextureInfo}
+use Rattle.records.specs.declared.TexelCopyBufferLayout.{TexelCopyBufferLayout}
+use Rattle.records.specs.Bounds.{bufferChecks, textureChecks}
+use Rattle.rule_copy_range.specs.declared.CopyExtent.{CopyExtent}
+use Rattle.rule_copy_range.specs.Range.{rangeChecked}
+use Rattle.rule_linear_data.specs.Linear.{linearChecked}
+use Rattle.rule_formats.specs.Rules.{srcFormatChecks, dstFormatChecks, layoutChecks}
+use Rattle.rule_selectors.specs.declared.TextureCopyBase.{TextureCopyBase}
+use Rattle.rule_selectors.specs.Selector.{selectorChecked}
+use Rattle.rule_init_ranges.specs.Init.{srcTextureRange, dstTextureRange}
+use Rattle.rule_answers.specs.Stages.{after, after-range, after-selector, after-linear}
+use Rattle.plan_buffer_texture.specs.Plan.{planOf}
+use Rattle.copy_buffer_texture.specs.declared.BufferTexturePlanned.{BufferTexturePlanned}
+use Rattle.copy_buffer_texture.specs.declared.BufferTexturePlanned.the-variants as P
+use Rattle.copy_buffer_texture.specs.Plan.{lacksDepthFact}
+
+-- ---- buffer to texture
+
+-- module 4; 34
+unfoldable pub uploadPlaced : Device → Buffer → TexelCopyBufferLayout → Texture → TexelCopyTextureInfo → Extent3d → CopyExtent → ℕ → TextureCopyBase → BufferTexturePlanned
+uploadPlaced device b layout t view size extent layers base =
+    after-linear (linearChecked layout (t .format) (view .aspect) (b .size) Source size) P.Refused λ info.
+    stop-if (lacksDepthFact device (t .format)) (P.Refused (E.MissingDownlevelFlags DepthTextureAndBufferCopies)) $
+    P.Plan (planOf layout size extent layers base info Source (dstTextureRange view t size))
+
+-- 5; 6; 31 or 32; 35; 28; 14; 20
+unfoldable pub uploadAllowed : Device → Buffer → TexelCopyBufferLayout → Texture → TexelCopyTextureInfo → Extent3d → CopyExtent → ℕ → TextureCopyBase → BufferTexturePlanned
+uploadAllowed device b layout t view size extent layers base =
+    stop-if (not (contains (b .usage .0) BufferUsages.COPY-SRC)) (P.Refused (E.MissingBufferUsage Source)) $
+    stop-if (not (contains (t .usage .0) TextureUsages.COPY-DST)) (P.Refused (E.MissingTextureUsage Destination)) $
+    after (checked (dstFormatChecks (t .format) (view .aspect))) P.Refused $
+    after (checked (layoutChecks (view .aspect) (base .aspect .0) t layout true)) P.Refused $
+    uploadPlaced device b layout t view size extent layers base
+
+-- module 3; 12
+unfoldable pub uploadRanged : Device → Buffer → TexelCopyBufferLayout → Texture → TexelCopyTextureInfo → Extent3d → BufferTexturePlanned
+uploadRanged device b layout t view size =
+    after-range (rangeChecked view t Destination size) P.Refused λ extent layers.
+    after-selector (selectorChecked view t size) P.Refused λ base.
+    uploadAllowed device b layout t view size extent layers base
+
+-- records: 3 source, 2 destination
+unfoldable pub uploadStaged : Device → Buffer → TexelCopyBufferLayout → Texture → TexelCopyTextureInfo → Extent3d → BufferTexturePlanned
+uploadStaged device b layout t view size =
+    after (checked (bufferChecks b Source)) P.Refused $
+    after (checked (textureChecks t Destination)) P.Refused $
+    uploadRanged device b layout t view size
+
+-- ---- texture to buffer
+
+-- module 4; 34; 5
+unfoldable pub downloadPlaced : Device → Buffer → TexelCopyBufferLayout → Texture → TexelCopyTextureInfo → Extent3d → CopyExtent → ℕ → TextureCopyBase → BufferTexturePlanned
+downloadPlaced device b layout t view size extent layers base =
+    after-linear (linearChecked layout (t .format) (view .aspect) (b .size) Destination size) P.Refused λ info.
+    stop-if (lacksDepthFact device (t .format)) (P.Refused (E.MissingDownlevelFlags DepthTextureAndBufferCopies)) $
+    stop-if (not (contains (b .usage .0) BufferUsages.COPY-DST)) (P.Refused (E.MissingBufferUsage Destination)) $
+    P.Plan (planOf layout size extent layers base info Destination (srcTextureRange view t size))
+
+-- 6; 37; 29 or 30; 35; 28; 14; 20
+unfoldable pub downloadAllowed : Device → Buffer → TexelCopyBufferLayout → Texture → TexelCopyTextureInfo → Extent3d → CopyExtent → ℕ → TextureCopyBase → BufferTexturePlanned
+downloadAllowed device b layout t view size extent layers base =
+    stop-if (not (contains (t .usage .0) TextureUsages.COPY-SRC)) (P.Refused (E.MissingTextureUsage Source)) $
+    stop-if (leb (t .«mip_level_count») (view .«mip_level»)) (P.Refused (E.InvalidMipLevel (view .«mip_level») (t .«mip_level_count»))) $
+    after (checked (srcFormatChecks (t .format) (view .aspect))) P.Refused $
+    after (checked (layoutChecks (view .aspect) (base .aspect .0) t layout true)) P.Refused $
+    downloadPlaced device b layout t view size extent layers base
+
+-- module 3; 12
+unfoldable pub downloadRanged : Device → Buffer → TexelCopyBufferLayout → Texture → TexelCopyTextureInfo → Extent3d → BufferTexturePlanned
+downloadRanged device b layout t view size =
+    after-range (rangeChecked view t Source size) P.Refused λ extent layers.
+    after-selector (selectorChecked view t size) P.Refused λ base.
+    downloadAllowed device b layout t view size extent layers base
+
+-- records: 2 source, 3 destination
+unfoldable pub downloadStaged : Device → Texture → TexelCopyTextureInfo → Buffer → TexelCopyBufferLayout → Extent3d → BufferTexturePlanned
+downloadStaged device t view b layout size =
+    after (checked (textureChecks t Source)) P.Refused $
+    after (checked (bufferChecks b Destination)) P.Refused $
+    downloadRanged device b layout t view size

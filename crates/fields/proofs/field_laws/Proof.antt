@@ -1,8 +1,0 @@
--- `field_laws` meets its contract.
--- Assumes nothing.
-use Rattle.fields.proofs.Fits.{field-laws}
-use Rattle.fields.proofs.field_laws.Statement.{statement}
-use Rattle.fields.proofs.field_laws.Tie as tie
-
-pub field-laws-spec : {M : Type 1} → statement M
-field-laws-spec = tie.close (tie.spec (λ c. field-laws))

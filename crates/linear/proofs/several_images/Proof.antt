@@ -1,9 +1,0 @@
--- `several_images` meets its contract.
--- Assumes nothing.
-use Rattle.linear.specs.Linear.{severalImages}
-use Rattle.linear.proofs.several_images.Statement.{statement}
-use Rattle.linear.proofs.several_images.Tie as tie
-
-pub several-images-spec : {M : Type 1} → statement M
-unfolding severalImages
-several-images-spec = tie.close (tie.spec (λ c. cc))

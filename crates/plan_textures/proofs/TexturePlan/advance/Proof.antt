@@ -1,0 +1,12 @@
+-- `TexturePlan::advance` meets its contract.
+-- Assumes nothing.
+use borrow.Author.Needs.{needs}
+use Rattle.plan_textures.specs.Asking.{advanced}
+use Rattle.plan_textures.proofs.TexturePlan.advance.Statement.{statement}
+use Rattle.plan_textures.proofs.TexturePlan.advance.Tie as tie
+
+pub advance-spec : {M : Type 1} → statement M
+unfolding advanced
+advance-spec =
+    tie.close
+    (tie.spec (λ c. search needs) (λ c κs. search needs) (λ c. search needs) (λ c κs. search needs) (λ c. search needs) (λ c κs. search needs) (λ c. cc) (λ c. cc) (λ c. cc))

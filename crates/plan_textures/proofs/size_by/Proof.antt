@@ -1,0 +1,10 @@
+-- `size_by` meets its contract.
+-- Assumes nothing.
+use borrow.Author.Needs.{needs}
+use Rattle.plan_textures.specs.Asking.{sizeBy}
+use Rattle.plan_textures.proofs.size_by.Statement.{statement}
+use Rattle.plan_textures.proofs.size_by.Tie as tie
+
+pub size-by-spec : {M : Type 1} → statement M
+unfolding sizeBy
+size-by-spec = tie.close (tie.spec (λ c. search needs) (λ c. search needs) (λ c. cc))

@@ -1,8 +1,0 @@
--- `word_laws` meets its contract.
--- Assumes nothing.
-use Rattle.plan_words.proofs.Reading.{every-plan}
-use Rattle.plan_words.proofs.word_laws.Statement.{statement}
-use Rattle.plan_words.proofs.word_laws.Tie as tie
-
-pub word-laws-spec : {M : Type 1} → statement M
-word-laws-spec = tie.close (tie.spec (λ c. every-plan))

@@ -1,8 +1,0 @@
--- `range_laws` meets its contract.
--- Assumes nothing.
-use Rattle.ranges.proofs.Accepted.{every-range}
-use Rattle.ranges.proofs.range_laws.Statement.{statement}
-use Rattle.ranges.proofs.range_laws.Tie as tie
-
-pub range-laws-spec : {M : Type 1} → statement M
-range-laws-spec = tie.close (tie.spec (λ c. every-range))

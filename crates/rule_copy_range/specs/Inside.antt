@@ -1,0 +1,46 @@
+-- The range rule as a test, without its refusals.
+use Prim.Native.Nat.{ℕ, _+_}
+use mathlib.Core.Bool.{Bool, false, _&&_}
+use mathlib.Core.List.{[], _∷_}
+use lib.Dec.{eqb, leb, ltb}
+use Rattle.conditions.specs.Conditions.{pick, every}
+use Rattle.measures.specs.declared.Extent3d.{Extent3d}
+use Rattle.measures.specs.declared.Origin3d.{Origin3d}
+use Rattle.measures.specs.Measure.{multiple}
+use Rattle.formats.specs.Table.{blockWidth, blockHeight}
+use Rattle.records.specs.declared.Texture.{Texture}
+use Rattle.records.specs.declared.TexelCopyTextureInfo.{TexelCopyTextureInfo}
+use Rattle.records.specs.Extents.{physicalExtent}
+use Rattle.rule_copy_range.specs.Range.{requiresExactSize}
+
+-- a run that must be the whole side is; any other ends inside it
+unfoldable pub runFits : Bool → ℕ → ℕ → ℕ → Bool
+runFits exact start size limit = pick exact (eqb start 0 && eqb size limit) (leb (start + size) limit)
+
+-- on Z a part is always allowed
+unfoldable pub sidesFit : Bool → Origin3d → Extent3d → Extent3d → Bool
+sidesFit exact o size extent =
+    every
+    (runFits exact (o .x) (size .width) (extent .width)
+    ∷ runFits exact (o .y) (size .height) (extent .height)
+    ∷ runFits false (o .z) (size .«depth_or_array_layers») (extent .«depth_or_array_layers»)
+    ∷ [])
+
+unfoldable pub blocksFit : Origin3d → Extent3d → ℕ → ℕ → Bool
+blocksFit o size width height =
+    every
+    (multiple (o .x) width
+    ∷ multiple (o .y) height
+    ∷ multiple (size .width) width
+    ∷ multiple (size .height) height
+    ∷ [])
+
+unfoldable pub extentFits : TexelCopyTextureInfo → Texture → Extent3d → Bool
+extentFits view t size = sidesFit (requiresExactSize t) (view .origin) size (physicalExtent t (view .«mip_level»))
+
+unfoldable pub alignmentFits : TexelCopyTextureInfo → Texture → Extent3d → Bool
+alignmentFits view t size = blocksFit (view .origin) size (blockWidth (t .format)) (blockHeight (t .format))
+
+unfoldable pub inRange : TexelCopyTextureInfo → Texture → Extent3d → Bool
+inRange view t size =
+    every (ltb (view .«mip_level») (t .«mip_level_count») ∷ extentFits view t size ∷ alignmentFits view t size ∷ [])

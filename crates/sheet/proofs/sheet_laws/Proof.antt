@@ -1,8 +1,0 @@
--- `sheet_laws` meets its contract.
--- Assumes nothing.
-use Rattle.sheet.proofs.SheetProofs.{sheet-laws}
-use Rattle.sheet.proofs.sheet_laws.Statement.{statement}
-use Rattle.sheet.proofs.sheet_laws.Tie as tie
-
-pub sheet-laws-spec : {M : Type 1} → statement M
-sheet-laws-spec = tie.close (tie.spec (λ c. sheet-laws))

@@ -1,0 +1,13 @@
+-- `plan_buffer_texture` meets its contract.
+-- Assumes nothing.
+use Rattle.conditions.proofs.Rules.{flag-lines}
+use Rattle.sheet_copies.specs.CopyLines.{copyPlanned}
+use borrow.Author.Needs.{needs}
+use Rattle.sheet_copies.proofs.plan_buffer_texture.Statement.{statement}
+use Rattle.sheet_copies.proofs.plan_buffer_texture.Tie as tie
+
+pub plan-buffer-texture-spec : {M : Type 1} → statement M
+unfolding copyPlanned
+plan-buffer-texture-spec =
+    tie.close
+    (tie.spec (λ c κs. search needs) (λ c. search flag-lines depth 10) (λ c κs. search needs) (λ c. search flag-lines depth 10) (λ c κs. search needs) (λ c. search flag-lines depth 10))

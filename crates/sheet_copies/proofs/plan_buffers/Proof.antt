@@ -1,0 +1,13 @@
+-- `plan_buffers` meets its contract.
+-- Assumes nothing.
+use Rattle.conditions.proofs.Rules.{flag-lines}
+use Rattle.sheet_copies.specs.CopyLines.{buffersPlanned}
+use borrow.Author.Needs.{needs}
+use Rattle.sheet_copies.proofs.plan_buffers.Statement.{statement}
+use Rattle.sheet_copies.proofs.plan_buffers.Tie as tie
+
+pub plan-buffers-spec : {M : Type 1} → statement M
+unfolding buffersPlanned
+plan-buffers-spec =
+    tie.close
+    (tie.spec (λ c κs. search needs) (λ c. search flag-lines depth 10) (λ c κs. search needs) (λ c. search flag-lines depth 10) (λ c κs. search needs) (λ c. search flag-lines depth 10))

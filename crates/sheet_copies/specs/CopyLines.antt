@@ -1,0 +1,75 @@
+-- A copy line and the records that it names: an index past its section is 1, before the records; else the copy's answer.
+-- The sheet is its bytes s; a section's records are found by the places where their lines begin.
+use Prim.Native.Nat.{ℕ, _+_}
+use mathlib.Core.Bool.{Bool}
+use mathlib.Core.List.{List}
+use lib.Dec.{eqb, leb}
+use lib.ListN.{length, getD}
+use Rattle.conditions.specs.Conditions.{pick, stop-if, _$_}
+use Rattle.refusals.specs.declared.TransferError.the-variants.{InvalidSheetIndex}
+use Rattle.records.specs.declared.Buffer.{Buffer}
+use Rattle.records.specs.declared.Device.{Device}
+use Rattle.records.specs.declared.Texture.{Texture}
+use Rattle.records.specs.declared.TextureSide.{TextureSide}
+use Rattle.copy_kinds.specs.declared.Planned.{Planned}
+use Rattle.copy_kinds.specs.declared.Planned.the-variants as P
+use Rattle.copy_kinds.specs.Requests.{plannedBuffers, plannedUpload, plannedDownload, plannedTextures}
+use Rattle.sheet_fields.specs.declared.Line.{Line}
+use Rattle.sheet_sections.specs.Rows.{textures, buffers, sectionLine}
+use Rattle.sheet_records.specs.Records.{valueOf, wordOf, sizeOf, extentOf, textureOf, bufferOf, viewOf, layoutOf}
+
+unfoldable pub textureAt : List ℕ → List ℕ → ℕ → Texture
+textureAt s places k = textureOf (sectionLine s textures (getD places k 0))
+
+unfoldable pub bufferAt : List ℕ → List ℕ → ℕ → Buffer
+bufferAt s places k = bufferOf (sectionLine s buffers (getD places k 0))
+
+-- from field i on: texture, level, x, y, z, aspect
+unfoldable pub textureSideAt : List ℕ → List ℕ → Line → ℕ → TextureSide
+textureSideAt s places l i = record { texture = textureAt s places (wordOf l i); view = viewOf l (i + 1) }
+
+-- ---- the answer to a line
+
+-- an index past its section
+unfoldable pub past : List ℕ → ℕ → Bool
+past places k = leb (length places) k
+
+-- `1 src offset dst offset size`
+unfoldable pub namedBuffers : List ℕ → List ℕ → Device → Line → Planned
+namedBuffers s bs device l =
+    plannedBuffers device (wordOf l 1) (bufferAt s bs (wordOf l 1)) (valueOf l 2) (wordOf l 3) (bufferAt s bs (wordOf l 3)) (valueOf l 4) (sizeOf l)
+
+unfoldable pub buffersPlanned : List ℕ → List ℕ → Device → Line → Planned
+buffersPlanned s bs device l =
+    stop-if (past bs (wordOf l 1)) (P.Refused InvalidSheetIndex) $  -- 1
+    stop-if (past bs (wordOf l 3)) (P.Refused InvalidSheetIndex) $  -- 1
+    namedBuffers s bs device l
+
+-- `2` or `3 buffer offset bytes rows texture level x y z aspect w h d`
+unfoldable pub namedCopy : List ℕ → List ℕ → List ℕ → Device → Line → Planned
+namedCopy s ts bs device l =
+    pick (eqb (valueOf l 0) 2) (plannedUpload device (wordOf l 1) (bufferAt s bs (wordOf l 1)) (layoutOf l) (wordOf l 5) (textureAt s ts (wordOf l 5)) (viewOf l 6) (extentOf l 11)) $
+    plannedDownload device (wordOf l 5) (textureAt s ts (wordOf l 5)) (viewOf l 6) (wordOf l 1) (bufferAt s bs (wordOf l 1)) (layoutOf l) (extentOf l 11)
+
+unfoldable pub copyPlanned : List ℕ → List ℕ → List ℕ → Device → Line → Planned
+copyPlanned s ts bs device l =
+    stop-if (past bs (wordOf l 1)) (P.Refused InvalidSheetIndex) $  -- 1
+    stop-if (past ts (wordOf l 5)) (P.Refused InvalidSheetIndex) $  -- 1
+    namedCopy s ts bs device l
+
+-- `4`, then texture, level, x, y, z, aspect twice, then w h d
+unfoldable pub namedTextures : List ℕ → List ℕ → Line → Planned
+namedTextures s ts l = plannedTextures (wordOf l 1) (textureSideAt s ts l 1) (wordOf l 7) (textureSideAt s ts l 7) (extentOf l 13)
+
+unfoldable pub texturesPlanned : List ℕ → List ℕ → Line → Planned
+texturesPlanned s ts l =
+    stop-if (past ts (wordOf l 1)) (P.Refused InvalidSheetIndex) $  -- 1
+    stop-if (past ts (wordOf l 7)) (P.Refused InvalidSheetIndex) $  -- 1
+    namedTextures s ts l
+
+-- by the line's kind
+unfoldable pub linePlanned : List ℕ → List ℕ → List ℕ → Device → Line → Planned
+linePlanned s ts bs device l =
+    pick (eqb (valueOf l 0) 1) (buffersPlanned s bs device l) $
+    pick (eqb (valueOf l 0) 4) (texturesPlanned s ts l) $
+    copyPlanned s ts bs device l

@@ -1,0 +1,35 @@
+-- `put_bytes` meets its contract.
+-- Assumes nothing.
+use mathlib.Core.Path.{_≡_, refl, ap, _∙_}
+use Prim.Native.Nat.{ℕ, _+_, _-_}
+use native.Mathlib.Omega.{arith}
+use borrow.Author.Needs.{needs}
+use lib.ListN.{length, length-set, drop}
+use lib.Seq.{sets}
+use denote.Ref.{now}
+use Rattle.sheet_text.proofs.Puts.{bytes-on, bytes-all}
+use Rattle.sheet_text.proofs.put_bytes.Statement.{statement}
+use Rattle.sheet_text.proofs.put_bytes.Tie as tie
+
+abbrev Inv-loop : tie.InvT-loop
+Inv-loop out₀ at word i₀ out i = (sets out (at + i) (drop i word) ≡ sets out₀ at word) × (length out ≡ length out₀)
+
+abbrev μ-loop : tie.MeasureT-loop
+μ-loop out₀ at word i₀ out i = length word - i
+
+loop-holds : tie.Need-loop-holds Inv-loop μ-loop
+loop-holds c = let e : c .args .at + 0 ≡ c .args .at = omega arith in (ap (λ (k : ℕ). sets (now (c .args .out)) k (now (c .args .word))) e, refl)
+
+loop-again : tie.Need-loop-again Inv-loop μ-loop
+loop-again c =
+    let w = c .before in
+    let l = w .before .loop in
+    (bytes-on (l .out) _ _ (l .i) (w .loop-test .taken) ∙ l .inv .0, simp length-set (l .inv .1))
+
+returns : tie.Need-returns Inv-loop μ-loop
+returns c = let l = c .before .loop in record { next = refl; bytes = bytes-all (l .out) _ _ (l .i) (c .loop-test .left) ∙ l .inv .0 }
+
+pub put-bytes-spec : {M : Type 1} → statement M
+put-bytes-spec =
+    tie.close
+    (tie.spec Inv-loop μ-loop loop-holds (search needs) (search needs) (search needs) (search needs) (search needs) loop-again (search needs) (search needs) returns)

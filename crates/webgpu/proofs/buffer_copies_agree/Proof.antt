@@ -1,8 +1,0 @@
--- `buffer_copies_agree` meets its contract.
--- Assumes nothing.
-use Rattle.webgpu.proofs.BufferCopies.{buffer-copies}
-use Rattle.webgpu.proofs.buffer_copies_agree.Statement.{statement}
-use Rattle.webgpu.proofs.buffer_copies_agree.Tie as tie
-
-pub buffer-copies-agree-spec : {M : Type 1} → statement M
-buffer-copies-agree-spec = tie.close (tie.spec (λ c. buffer-copies))

@@ -1,8 +1,0 @@
--- `ranges_agree` meets its contract.
--- Assumes nothing.
-use Rattle.webgpu.proofs.TextureRanges.{ranges, ranges-with-layers}
-use Rattle.webgpu.proofs.ranges_agree.Statement.{statement}
-use Rattle.webgpu.proofs.ranges_agree.Tie as tie
-
-pub ranges-agree-spec : {M : Type 1} → statement M
-ranges-agree-spec = tie.close (tie.spec (λ c. (ranges, ranges-with-layers)))

@@ -1,8 +1,0 @@
--- `buffer_effects` meets its contract.
--- Assumes nothing.
-use Rattle.webgpu_effects.proofs.BufferEffects.{every-buffer-copy}
-use Rattle.webgpu_effects.proofs.buffer_effects.Statement.{statement}
-use Rattle.webgpu_effects.proofs.buffer_effects.Tie as tie
-
-pub buffer-effects-spec : {M : Type 1} → statement M
-buffer-effects-spec = tie.close (tie.spec (λ c. every-buffer-copy))

@@ -1,8 +1,0 @@
--- `writer_laws` meets its contract.
--- Assumes nothing.
-use Rattle.writer.proofs.Writes.{every-entry}
-use Rattle.writer.proofs.writer_laws.Statement.{statement}
-use Rattle.writer.proofs.writer_laws.Tie as tie
-
-pub writer-laws-spec : {M : Type 1} → statement M
-writer-laws-spec = tie.close (tie.spec (λ c. every-entry))
