@@ -10,8 +10,8 @@ use borrow.Author.Tests.{leb-true, leb-false}
 use lib.Dec.{leb}
 use lib.ListN.{length, take, length-append}
 use lib.Seq.{sets, length-sets, take-all, take-nil, take-append-le, take-append-add, length-take-le}
-use Rattle.sheet_text.specs.Text.{Put}
-use Rattle.sheet_text.proofs.Puts.{sets-append, put-take, put-length}
+use Rattle.slices.specs.Put.{Put}
+use Rattle.slices.proofs.Puts.{sets-append, put-take, put-length}
 use Rattle.sheet_listing.specs.Listing.{Fills, Ends}
 use Rattle.sheet_listing.proofs.Whole.{take-least}
 use Rattle.c_listing.specs.Lists.{counted, frontPut, Lists}

@@ -12,8 +12,8 @@ use lib.Seq.{sets, getD-append-add}
 use Rattle.conditions.specs.Conditions.{stop-if}
 use Rattle.refusals.specs.declared.TransferError.the-variants.{RegionSliceTooShort}
 use Rattle.refusals.specs.declared.Checked.the-variants as C
-use Rattle.sheet_text.specs.Text.{Put}
-use Rattle.sheet_text.proofs.Puts.{sets-append, put-as, put-length}
+use Rattle.slices.specs.Put.{Put}
+use Rattle.slices.proofs.Puts.{sets-append, put-as, put-length}
 use Rattle.plan_rows.specs.Rows.{rowOf, bufferCopyNumbers, bufferTextureCopyNumbers, textureCopyNumbers}
 use Rattle.plan_rows.specs.declared.Row.{Row}
 use Rattle.copy_buffers.specs.BufferCopies as K

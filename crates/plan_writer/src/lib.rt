@@ -3,7 +3,7 @@ ghost use mathlib.Core.Path.{_≡_};
 ghost use Prim.Native.Nat.{_+_, _*_, _≤_};
 ghost use lib.ListN.{length, take};
 ghost use lib.Seq.{sets};
-ghost use Rattle.sheet_text.specs.Text.{Put};
+ghost use Rattle.slices.specs.Put.{Put};
 ghost use Rattle.plan_kinds.specs.Regions.{leftOf, fieldsOf, texturesWith};
 ghost use Rattle.plan_writer.specs.Writing.{numbersLeft, behindAll, fits, slotsOf, writtenOf, EveryEntry};
 use copy_buffers::BufferPlan;

@@ -15,8 +15,10 @@ use Rattle.plan_buffer_texture.specs.declared.NextBufferTextureCopy.{NextBuffer
 use Rattle.plan_buffer_texture.specs.declared.NextBufferTextureCopy.the-variants as U
 use Rattle.plan_textures.specs.declared.NextTextureCopy.{NextTextureCopy}
 use Rattle.plan_textures.specs.declared.NextTextureCopy.the-variants as T
-use Rattle.sheet_text.specs.Text.{spaced, lineText, Put}
-use Rattle.sheet_text.proofs.Puts.{put-as, put-then, put-length, spaced-few, line-few}
+use Rattle.slices.specs.Put.{Put}
+use Rattle.sheet_text.specs.Text.{spaced, lineText}
+use Rattle.slices.proofs.Puts.{put-as, put-then, put-length}
+use Rattle.sheet_text.proofs.Puts.{spaced-few, line-few}
 use Rattle.plan_rows.specs.declared.Row.{Row}
 use Rattle.plan_rows.specs.Rows.{rowOf, bufferCopyNumbers, bufferTextureCopyNumbers, textureCopyNumbers, textureRangeNumbers, bufferRangeNumbers, refusalNumbers}
 use Rattle.plan_rows.proofs.Fronts.{row-count, row-numbers, row-inside}

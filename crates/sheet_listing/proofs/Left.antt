@@ -13,8 +13,8 @@ use Rattle.sheet_sections.specs.Rows.{copies, sectionLine}
 use Rattle.plan_kinds.specs.declared.Plan.{Plan}
 use Rattle.plan_kinds.specs.Regions.{leftOf, behindOf}
 use Rattle.plan_kinds.proofs.Behind.{behind-left}
-use Rattle.sheet_text.specs.Text.{Put}
-use Rattle.sheet_text.proofs.Puts.{put-none, put-then, put-length}
+use Rattle.slices.specs.Put.{Put}
+use Rattle.slices.proofs.Puts.{put-none, put-then, put-length}
 use Rattle.sheet_lines.specs.Lines.{sheetText, answerText, regionText}
 use Rattle.sheet_lines.proofs.LineLaws.{sheet-few, region-few, answer-few, sheet-some, region-some, answer-some}
 use Rattle.sheet_listing.specs.declared.Lister.{Lister}

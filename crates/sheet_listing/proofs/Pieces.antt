@@ -17,8 +17,9 @@ use Rattle.copy_kinds.specs.declared.Planned.the-variants as P
 use Rattle.plan_kinds.specs.Regions.{leftOf, behindOf}
 use Rattle.plan_kinds.proofs.Behind.{behind-left}
 use Rattle.sheet_copies.specs.CopyLines.{linePlanned}
-use Rattle.sheet_text.specs.Text.{spaced, lineText, Put}
-use Rattle.sheet_text.proofs.Puts.{put-as, put-none}
+use Rattle.slices.specs.Put.{Put}
+use Rattle.sheet_text.specs.Text.{spaced, lineText}
+use Rattle.slices.proofs.Puts.{put-as, put-none}
 use Rattle.sheet_lines.specs.Lines.{okWord, refusedWord, sheetText, copyText, planText, refusalText, answerText, regionText}
 use Rattle.sheet_listing.specs.declared.Lister.{Lister}
 use Rattle.sheet_listing.specs.Listing.{regionsText, noPlan, planOf, copyAnswer, answerAt, copiesText, stateWith, answerOf, pieceOf, nextOf, textLeft}

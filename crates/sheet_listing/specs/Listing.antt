@@ -20,7 +20,7 @@ use Rattle.sheet_sections.specs.Rows.{devices, textures, buffers, copies, secti
 use Rattle.sheet_sections.specs.Sheet.{sheetOf}
 use Rattle.sheet_records.specs.Records.{deviceOf}
 use Rattle.sheet_copies.specs.CopyLines.{linePlanned}
-use Rattle.sheet_text.specs.Text.{Put}
+use Rattle.slices.specs.Put.{Put}
 use Rattle.sheet_listing.specs.declared.Lister.{Lister}
 use Rattle.sheet_listing.specs.declared.Listing.{Listing}
 use Rattle.sheet_lines.specs.Lines.{pieceBytes, sheetText, answerText, regionText}

@@ -4,7 +4,7 @@ ghost use mathlib.Core.List.{List};
 ghost use Prim.Native.Nat.{ℕ, _+_, _-_, _≤_, min};
 ghost use lib.ListN.{length};
 ghost use Rattle.sheet_sections.specs.Sheet.{sheetOf};
-ghost use Rattle.sheet_text.specs.Text.{Put};
+ghost use Rattle.slices.specs.Put.{Put};
 ghost use Rattle.sheet_lines.specs.Lines.{pieceBytes, sheetText};
 ghost use Rattle.sheet_listing.specs.Listing.{noPlan, planOf, deviceAt, answerOf, pieceOf, stateWith, nextOf, textLeft, restOf, listingOf, Fills, Ends, Listed};
 use copy_buffers::BufferCopy;

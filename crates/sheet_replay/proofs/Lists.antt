@@ -8,7 +8,7 @@ use native.Mathlib.Omega.{arith}
 use lib.Dec.{eqb}
 use lib.ListN.{length, take, drop, length-append, length-drop}
 use Rattle.conditions.specs.Conditions.{pick}
-use Rattle.sheet_text.proofs.Puts.{put-take, put-length}
+use Rattle.slices.proofs.Puts.{put-take, put-length}
 use Rattle.sheet_listing.specs.Listing.{Fills, Ends, listingOf}
 use Rattle.sheet_replay.specs.declared.Head.{Head}
 use Rattle.sheet_replay.specs.declared.Head.the-variants as H

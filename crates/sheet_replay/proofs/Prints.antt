@@ -7,8 +7,10 @@ use mathlib.Core.List.{List, [], _∷_, _++_}
 use native.Mathlib.Omega.{arith}
 use lib.ListN.{length, take, length-append}
 use lib.Seq.{length-take-le}
-use Rattle.sheet_text.specs.Text.{decimal, Put}
-use Rattle.sheet_text.proofs.Puts.{put-length, decimal-few, line-few}
+use Rattle.slices.specs.Put.{Put}
+use Rattle.sheet_text.specs.Text.{decimal}
+use Rattle.slices.proofs.Puts.{put-length}
+use Rattle.sheet_text.proofs.Puts.{decimal-few, line-few}
 use Rattle.sheet_replay.specs.Replay.{textBytes, differsText, countsText, illText}
 
 pub counted-few : (n : ℕ) (w : List ℕ) → length (decimal n ++ w) ≤ 20 + length w

@@ -1,4 +1,4 @@
--- How texts that are put one after another join, and how decimals grow.
+-- How decimals grow, and how the texts of numbers and lines join.
 -- Assumes nothing.
 use mathlib.Core.Path.{_≡_, refl, sym, ap, _∙_}
 use mathlib.Core.Bool.{Bool, true, false}
@@ -10,42 +10,12 @@ use native.Mathlib.Nat.{div-lt-iff-lt-mul, pow-suc}
 use mathlib.Core.Logic.{_⊎_, inl, inr, ⊎-elim}
 use borrow.Author.Tests.{ltb-true, ltb-false, lt-ltb, le-ltb}
 use lib.Dec.{ltb}
-use lib.ListN.{length, set, take, drop, getD, length-append, length-set, drop-of-length-le}
-use lib.Seq.{sets, length-sets, drop-cons, sets-eq, take-at, length-take-le}
+use lib.ListN.{length, set, drop, getD, length-append, length-set, drop-of-length-le}
+use lib.Seq.{drop-cons}
 use Rattle.conditions.specs.Conditions.{pick}
-use Rattle.sheet_text.specs.Text.{digitsIn, decimal, numberText, spaced, lineText, isAbsent, Put}
-
-pub sets-append : (a b l : List ℕ) (i : ℕ) → sets l i (a ++ b) ≡ sets (sets l i a) (i + length a) b
-sets-append [] b l i = let z : i + 0 ≡ i = omega arith in rw z
-sets-append (x ∷ a) b l i =
-    let z : i + suc (length a) ≡ suc i + length a = omega arith in
-    rw z (sets-append a b (set l i x) (suc i))
-
-module _ {l m : List ℕ} {at : ℕ} {a : List ℕ} {r : ℕ} (p : Put l m at a r) where
-  pub put-length : length m ≡ length l
-  put-length = rw (p .bytes) (length-sets l at a)
-
-  pub put-then : {k : List ℕ} {b : List ℕ} {q : ℕ} → Put m k r b q → Put l k at (a ++ b) q
-  put-then {k} {b} {q} o =
-      record {
-        next = rw (o .next, p .next, length-append a b) (omega arith);
-        bytes = rw (o .bytes, p .bytes, p .next) (sym (sets-append a b l at));
-      }
-
-  pub put-as : {b : List ℕ} → a ≡ b → Put l m at b r
-  put-as e = rw (← e) p
-
--- all that stands up to the end of the text
-pub put-take : {l m : List ℕ} {at : ℕ} {t : List ℕ} {r : ℕ} → Put l m at t r → at + length t ≤ length l → take r m ≡ take at l ++ t
-put-take {l} {m} {at} {t} p h =
-    let e : length (take at l ++ t) ≡ at + length t = rw (length-append (take at l) t, length-take-le at l (omega arith)) in
-    rw (p .next, p .bytes, sets-eq t l at h) (take-at (take at l ++ t) (drop (at + length t) l) (at + length t) e)
-
-pub put-none : (l : List ℕ) (at : ℕ) → Put l l at [] at
-put-none l at = record { next = omega arith; bytes = refl }
-
-pub put-one : (l : List ℕ) (at x : ℕ) → Put l (set l at x) at (x ∷ []) (at + 1)
-put-one l at x = record { next = refl; bytes = refl }
+use Rattle.slices.specs.Put.{Put}
+use Rattle.slices.proofs.Puts.{put-length, put-then, put-as, put-none, put-one}
+use Rattle.sheet_text.specs.Text.{digitsIn, decimal, numberText, spaced, lineText, isAbsent}
 
 -- ---- decimals
 
@@ -149,14 +119,6 @@ underway-on dash l₀ l m at next ns i r u h p =
       same = k ∙ u .same;
       rest = λ m′ r′ q. u .rest m′ r′ (put-as (put-then (put-one l next 32) (put-then p q)) (sym (spaced-on dash ns i h)));
     }
-
--- ---- bytes
-
-pub bytes-on : (l w : List ℕ) (at i : ℕ) → i < length w → sets (set l (at + i) (getD w i 0)) (at + (i + 1)) (drop (i + 1) w) ≡ sets l (at + i) (drop i w)
-bytes-on l w at i h = let e : at + (i + 1) ≡ suc (at + i) = omega arith in rw (e, add-one i, drop-cons w i 0 h)
-
-pub bytes-all : (l w : List ℕ) (at i : ℕ) → length w ≤ i → l ≡ sets l (at + i) (drop i w)
-bytes-all l w at i h = rw (drop-of-length-le w h)
 
 pub underway-start : (dash : Bool) (l : List ℕ) (at : ℕ) (ns : List ℕ) → at + 21 * length ns ≤ length l → Underway dash l l at at ns 0
 underway-start dash l at ns h = record { room = omega arith; same = refl; rest = λ m r q. q }

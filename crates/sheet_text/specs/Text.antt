@@ -1,12 +1,9 @@
--- Numbers, words and lines as lists of bytes, and what it means that a text was put somewhere.
+-- Numbers, words and lines as lists of bytes.
 -- Among bytes 10 is a newline, 32 a space, 45 `-`, and 48 to 57 are the digits.
 use mathlib.Core.Bool.{Bool, _&&_}
 use mathlib.Core.List.{List, [], _∷_, _++_}
 use Prim.Native.Nat.{ℕ, zero, suc, _+_, _-_, _/_, _%_, _^_}
 use lib.Dec.{ltb, eqb}
-use mathlib.Core.Path.{_≡_}
-use lib.ListN.{length}
-use lib.Seq.{sets}
 use Rattle.conditions.specs.Conditions.{pick}
 
 -- the decimal digits of n, if the first number allows as many
@@ -34,8 +31,3 @@ spaced dash (n ∷ ns) = 32 ∷ (numberText dash n ++ spaced dash ns)
 -- a word, its numbers, a newline
 unfoldable pub lineText : List ℕ → Bool → List ℕ → List ℕ
 lineText word dash ns = word ++ (spaced dash ns ++ (10 ∷ []))
-
--- m is l but for the text, which stands at a place; r is the place behind the text
-pub record Put (l m : List ℕ) (at : ℕ) (text : List ℕ) (r : ℕ) : Type 0 where
-  pub next : r ≡ at + length text
-  pub bytes : m ≡ sets l at text

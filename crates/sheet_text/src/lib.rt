@@ -2,7 +2,8 @@
 ghost use mathlib.Core.Path.{_≡_};
 ghost use Prim.Native.Nat.{_+_, _*_, _≤_, _<_};
 ghost use lib.ListN.{length};
-ghost use Rattle.sheet_text.specs.Text.{decimal, numberText, spaced, lineText, isAbsent, Put};
+ghost use Rattle.slices.specs.Put.{Put};
+ghost use Rattle.sheet_text.specs.Text.{decimal, numberText, spaced, lineText, isAbsent};
 
 // The digit of a number below ten.
 fn figure(n: u64) -> u8
@@ -33,7 +34,7 @@ fn is_absent(dash: bool, n: u64) -> bool
     dash && n == u64::MAX
 }
 
-pub fn put_number(out: &mut [u8], at: usize, dash: bool, n: u64) -> usize
+fn put_number(out: &mut [u8], at: usize, dash: bool, n: u64) -> usize
     requires { ⌜ at + 20 ≤ length (now out) ⌝ }
     ensures { λ r. ⌜ Put (now (out .entry)) (now (out .exit)) at (numberText dash n) r ⌝ }
 {

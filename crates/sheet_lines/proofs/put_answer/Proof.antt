@@ -2,7 +2,7 @@
 -- Assumes nothing.
 use mathlib.Core.Path.{sym, ap}
 use borrow.Author.Needs.{needs}
-use Rattle.sheet_text.proofs.Puts.{put-as}
+use Rattle.slices.proofs.Puts.{put-as}
 use Rattle.sheet_lines.specs.Lines.{answerText}
 use Rattle.sheet_lines.proofs.put_answer.Statement.{statement}
 use Rattle.sheet_lines.proofs.put_answer.Tie as tie

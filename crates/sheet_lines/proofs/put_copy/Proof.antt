@@ -1,7 +1,7 @@
 -- `put_copy` meets its contract.
 -- Assumes nothing.
 use borrow.Author.Needs.{needs}
-use Rattle.sheet_text.proofs.Puts.{put-then}
+use Rattle.slices.proofs.Puts.{put-then}
 use Rattle.sheet_lines.specs.Lines.{copyText}
 use Rattle.sheet_lines.proofs.put_copy.Statement.{statement}
 use Rattle.sheet_lines.proofs.put_copy.Tie as tie

@@ -2,7 +2,7 @@
 -- Assumes nothing.
 use mathlib.Core.Path.{sym, ap}
 use borrow.Author.Needs.{needs}
-use Rattle.sheet_text.proofs.Puts.{put-as, put-none}
+use Rattle.slices.proofs.Puts.{put-as, put-none}
 use Rattle.sheet_lines.specs.Lines.{rangeText}
 use Rattle.sheet_lines.proofs.put_range.Statement.{statement}
 use Rattle.sheet_lines.proofs.put_range.Tie as tie

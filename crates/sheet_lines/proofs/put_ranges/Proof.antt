@@ -2,7 +2,7 @@
 -- Assumes nothing.
 use native.Mathlib.Omega.{arith}
 use borrow.Author.Needs.{needs}
-use Rattle.sheet_text.proofs.Puts.{put-then}
+use Rattle.slices.proofs.Puts.{put-then}
 use Rattle.sheet_lines.specs.Lines.{rangesText}
 use Rattle.sheet_lines.proofs.LineLaws.{range-few, room-behind}
 use Rattle.sheet_lines.proofs.put_ranges.Statement.{statement}

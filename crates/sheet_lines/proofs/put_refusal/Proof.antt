@@ -3,7 +3,7 @@
 use native.Mathlib.Omega.{arith}
 use mathlib.Core.Bool.{false}
 use borrow.Author.Needs.{needs}
-use Rattle.sheet_text.proofs.Puts.{put-then}
+use Rattle.slices.proofs.Puts.{put-then}
 use Rattle.sheet_lines.specs.Lines.{refusedWord, refusalText}
 use Rattle.sheet_lines.proofs.LineLaws.{refusal-count, row-needs, row-line, copy-few, room-behind}
 use Rattle.sheet_lines.proofs.put_refusal.Statement.{statement}

@@ -4,7 +4,7 @@ use Prim.Native.Nat.{_-_}
 use mathlib.Core.Path.{_∙_}
 use borrow.Author.Needs.{needs}
 use lib.ListN.{length}
-use Rattle.sheet_text.proofs.Puts.{put-length}
+use Rattle.slices.proofs.Puts.{put-length}
 use Rattle.sheet_listing.proofs.Left.{Filling, filling-starts, filling-room, filling-on, filling-less, filling-stops, filling-ends}
 use Rattle.sheet_listing.proofs.put_pieces.Statement.{statement}
 use Rattle.sheet_listing.proofs.put_pieces.Tie as tie

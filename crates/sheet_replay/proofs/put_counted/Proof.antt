@@ -1,7 +1,7 @@
 -- `put_counted` meets its contract.
 -- Assumes nothing.
 use borrow.Author.Needs.{needs}
-use Rattle.sheet_text.proofs.Puts.{put-then}
+use Rattle.slices.proofs.Puts.{put-then}
 use Rattle.sheet_replay.proofs.Prints.{counted-room}
 use Rattle.sheet_replay.proofs.put_counted.Statement.{statement}
 use Rattle.sheet_replay.proofs.put_counted.Tie as tie

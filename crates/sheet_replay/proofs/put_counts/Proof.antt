@@ -2,7 +2,7 @@
 -- Assumes nothing.
 use borrow.Author.Needs.{needs}
 use native.Mathlib.Omega.{arith}
-use Rattle.sheet_text.proofs.Puts.{put-then}
+use Rattle.slices.proofs.Puts.{put-then}
 use Rattle.sheet_replay.specs.Replay.{countsText}
 use Rattle.sheet_replay.proofs.Prints.{counts-room}
 use Rattle.sheet_replay.proofs.put_counts.Statement.{statement}

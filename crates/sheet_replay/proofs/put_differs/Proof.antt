@@ -1,7 +1,7 @@
 -- `put_differs` meets its contract.
 -- Assumes nothing.
 use borrow.Author.Needs.{needs}
-use Rattle.sheet_text.proofs.Puts.{put-then}
+use Rattle.slices.proofs.Puts.{put-then}
 use Rattle.sheet_replay.specs.Replay.{differsText}
 use Rattle.sheet_replay.proofs.put_differs.Statement.{statement}
 use Rattle.sheet_replay.proofs.put_differs.Tie as tie

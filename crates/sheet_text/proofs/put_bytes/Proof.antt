@@ -7,7 +7,7 @@ use borrow.Author.Needs.{needs}
 use lib.ListN.{length, length-set, drop}
 use lib.Seq.{sets}
 use denote.Ref.{now}
-use Rattle.sheet_text.proofs.Puts.{bytes-on, bytes-all}
+use Rattle.slices.proofs.Puts.{bytes-on, bytes-all}
 use Rattle.sheet_text.proofs.put_bytes.Statement.{statement}
 use Rattle.sheet_text.proofs.put_bytes.Tie as tie
 
