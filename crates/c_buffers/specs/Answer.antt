@@ -4,7 +4,7 @@ use mathlib.Core.Bool.{Bool, false}
 use Rattle.conditions.specs.Conditions.{pick}
 use Rattle.records.specs.declared.Device.{Device}
 use Rattle.copy_buffers.specs.declared.BufferPlanned.{BufferPlanned}
-use Rattle.copy_buffers.specs.BufferCopies.{bufferToBuffer}
+use Rattle.copy_buffers.specs.Plan.{bufferToBuffer}
 use Rattle.c_records.specs.CRecords.{bufferFrom, givenSize}
 
 -- the fact that this kind of copy asks for

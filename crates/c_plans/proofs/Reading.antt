@@ -15,7 +15,7 @@ use Rattle.measures.specs.declared.OptionU32.the-variants.{Given, Absent}
 use Rattle.rule_copy_range.specs.declared.CopyExtent.{CopyExtent}
 use Rattle.rule_selectors.specs.declared.TextureCopyBase.{TextureCopyBase}
 use Rattle.plan_rows.specs.Rows.{orAbsent, baseNumbers, sizeNumbers, bufferTextureCopyNumbers}
-use Rattle.copy_buffers.specs.BufferCopies as K
+use Rattle.plan_buffers.specs.Asking as K
 use Rattle.plan_buffer_texture.specs.Asking as L
 use Rattle.plan_textures.specs.declared.CopyParts.{CopyParts}
 use Rattle.plan_textures.specs.declared.CopyParts.the-variants.{Whole, DepthStencil, Planes}

@@ -2,14 +2,14 @@
 ghost use mathlib.Core.Path.{_≡_};
 ghost use Rattle.c_plans.specs.Laws.{EveryPlan};
 ghost use Rattle.c_plans.specs.PlanWords.{low, optionFrom, partsFrom, baseFrom, extentFrom, buffersFrom, bufferTextureFrom, texturesFrom};
-use copy_buffers::BufferCopy;
-use copy_buffers::BufferPlan;
 use flags::FormatAspects;
 use measures::OptionU32;
 use measures::Origin3d;
 use plan_buffer_texture::BufferTextureCopy;
 use plan_buffer_texture::BufferTexturePlan;
 use plan_buffer_texture::CopyRanges;
+use plan_buffers::BufferCopy;
+use plan_buffers::BufferPlan;
 use plan_textures::CopyParts;
 use plan_textures::TexturePlan;
 use plan_textures::TextureRanges;

@@ -12,7 +12,7 @@ use Rattle.conditions.specs.Conditions.{stop-if}
 use Rattle.flags.specs.FormatAspects.{DEPTH, STENCIL, PLANE-0}
 use Rattle.plan_rows.specs.Rows.{bufferCopyNumbers, bufferTextureCopyNumbers, textureCopyNumbers}
 use Rattle.rule_selectors.specs.Selector.{nextLayer}
-use Rattle.copy_buffers.specs.BufferCopies as K
+use Rattle.plan_buffers.specs.Asking as K
 use Rattle.plan_buffer_texture.specs.Asking as L
 use Rattle.plan_textures.specs.declared.CopyParts.{CopyParts}
 use Rattle.plan_textures.specs.declared.CopyParts.the-variants.{Whole, DepthStencil, Planes}

@@ -12,7 +12,7 @@ use Rattle.rule_init_ranges.specs.declared.BufferInitRanges.{BufferInitRanges}
 use Rattle.rule_init_ranges.specs.declared.MemoryInitKind.{MemoryInitKind}
 use Rattle.rule_init_ranges.specs.Init.{kindNumber}
 use Rattle.plan_rows.specs.Rows.{bufferTextureCopyNumbers, baseNumbers, sizeNumbers}
-use Rattle.copy_buffers.specs.declared.BufferPlan.{BufferPlan}
+use Rattle.plan_buffers.specs.declared.BufferPlan.{BufferPlan}
 use Rattle.copy_buffers.specs.declared.BufferPlanned.{BufferPlanned}
 use Rattle.copy_buffers.specs.declared.BufferPlanned.the-variants as B
 use Rattle.plan_buffer_texture.specs.declared.BufferTexturePlan.{BufferTexturePlan}

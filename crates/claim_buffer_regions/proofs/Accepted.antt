@@ -3,10 +3,11 @@
 use mathlib.Core.Path.{_≡_}
 use Prim.Native.Nat.{ℕ, _+_, _-_, _≤_}
 use Rattle.records.specs.declared.Device.{Device}
-use Rattle.copy_buffers.specs.declared.BufferPlan.{BufferPlan}
+use Rattle.plan_buffers.specs.declared.BufferPlan.{BufferPlan}
+use Rattle.plan_buffers.specs.Plan.{planOf}
 use Rattle.copy_buffers.specs.declared.BufferPlanned.the-variants as P
-use Rattle.copy_buffers.specs.BufferCopies.{sizeOr, planOf, bufferToBuffer}
-use Rattle.copy_buffers.specs.BufferCopies as planner
+use Rattle.copy_buffers.specs.Plan.{sizeOr, bufferToBuffer}
+use Rattle.copy_buffers.specs.Copy as planner
 use Rattle.copy_buffers.proofs.Accepted.{every-copy-law}
 use Rattle.claim_buffer_regions.specs.Regions.{Copy}
 

@@ -6,10 +6,10 @@ use Prim.Native.Nat.{ℕ}
 use native.Mathlib.Omega.{arith}
 use borrow.Author.Tests.{eq-eqb, ne-eqb}
 use Rattle.conditions.specs.Conditions.{stop-if}
-use Rattle.copy_buffers.specs.declared.BufferCopy.{BufferCopy}
-use Rattle.copy_buffers.specs.declared.BufferPlan.{BufferPlan}
-use Rattle.copy_buffers.specs.declared.NextBufferCopy.the-variants.{Region, NoneLeft}
-use Rattle.copy_buffers.specs.BufferCopies.{advanced, nextOf}
+use Rattle.plan_buffers.specs.declared.BufferCopy.{BufferCopy}
+use Rattle.plan_buffers.specs.declared.BufferPlan.{BufferPlan}
+use Rattle.plan_buffers.specs.declared.NextBufferCopy.the-variants.{Region, NoneLeft}
+use Rattle.plan_buffers.specs.Asking.{advanced, nextOf}
 use Rattle.claim_buffer_regions.specs.Claim.{Gives, ended, gave}
 
 at-end : (p : BufferPlan) → p .left ≡ 0 → nextOf p ≡ record { answer = NoneLeft; plan = p }

@@ -11,9 +11,10 @@ use Rattle.measures.specs.declared.OptionU64.the-variants as O
 use Rattle.rule_init_ranges.specs.declared.BufferInitRange.{BufferInitRange}
 use Rattle.rule_init_ranges.specs.declared.OptionRange.the-variants.{Given, Absent}
 use Rattle.rule_init_ranges.specs.Init.{unless}
-use Rattle.copy_buffers.specs.declared.BufferCopy.{BufferCopy}
-use Rattle.copy_buffers.specs.declared.BufferPlan.{BufferPlan}
-use Rattle.copy_buffers.specs.BufferCopies.{sizeOr, planOf}
+use Rattle.plan_buffers.specs.declared.BufferCopy.{BufferCopy}
+use Rattle.plan_buffers.specs.declared.BufferPlan.{BufferPlan}
+use Rattle.plan_buffers.specs.Plan.{planOf}
+use Rattle.copy_buffers.specs.Plan.{sizeOr}
 use Rattle.claim_buffer_regions.specs.Regions.{Copy, sizeOr, bytes, isEmpty}
 use Rattle.claim_buffer_regions.specs.Claim.{Gives, Planned, EveryBufferCopy}
 use Rattle.claim_buffer_regions.proofs.Accepted.{Checks, checks-of}

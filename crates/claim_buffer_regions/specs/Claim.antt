@@ -5,11 +5,12 @@ use mathlib.Core.List.{List, [], _∷_}
 use mathlib.Core.Logic.{_↔_}
 use Prim.Native.Nat.{ℕ, _+_, _≤_}
 use Rattle.records.specs.declared.Device.{Device}
-use Rattle.copy_buffers.specs.declared.BufferCopy.{BufferCopy}
-use Rattle.copy_buffers.specs.declared.BufferPlan.{BufferPlan}
+use Rattle.plan_buffers.specs.declared.BufferCopy.{BufferCopy}
+use Rattle.plan_buffers.specs.declared.BufferPlan.{BufferPlan}
+use Rattle.plan_buffers.specs.declared.NextBufferCopy.the-variants.{Region, NoneLeft}
+use Rattle.plan_buffers.specs.Asking.{nextOf}
 use Rattle.copy_buffers.specs.declared.BufferPlanned.the-variants.{Plan}
-use Rattle.copy_buffers.specs.declared.NextBufferCopy.the-variants.{Region, NoneLeft}
-use Rattle.copy_buffers.specs.BufferCopies.{bufferToBuffer, nextOf}
+use Rattle.copy_buffers.specs.Plan.{bufferToBuffer}
 use Rattle.claim_buffer_regions.specs.Regions.{Side, Copy, bytes, regionsOf, dstRange, srcRange}
 
 -- asking p, then each plan handed back in turn, until none is left, gives the regions rs, in order

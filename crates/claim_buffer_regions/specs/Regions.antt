@@ -11,7 +11,7 @@ use Rattle.rule_init_ranges.specs.declared.MemoryInitKind.{MemoryInitKind}
 use Rattle.rule_init_ranges.specs.declared.MemoryInitKind.the-variants.{ImplicitlyInitialized, NeedsInitializedMemory}
 use Rattle.rule_init_ranges.specs.declared.OptionRange.{OptionRange}
 use Rattle.rule_init_ranges.specs.declared.OptionRange.the-variants.{Given, Absent}
-use Rattle.copy_buffers.specs.declared.BufferCopy.{BufferCopy}
+use Rattle.plan_buffers.specs.declared.BufferCopy.{BufferCopy}
 
 pub record Side : Type 0 where
   pub buffer : Buffer

@@ -13,7 +13,7 @@ use Rattle.conditions.specs.Conditions.{stop-if}
 use Rattle.measures.specs.declared.OptionU32.{OptionU32}
 use Rattle.measures.specs.declared.OptionU32.the-variants.{Given, Absent}
 use Rattle.plan_rows.specs.Rows.{orAbsent, bufferCopyNumbers, bufferTextureCopyNumbers, textureCopyNumbers}
-use Rattle.copy_buffers.specs.BufferCopies as K
+use Rattle.plan_buffers.specs.Asking as K
 use Rattle.plan_buffer_texture.specs.Asking as L
 use Rattle.plan_textures.specs.Asking as X
 use Rattle.plan_kinds.specs.declared.Plan.{Plan}

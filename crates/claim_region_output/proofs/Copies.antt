@@ -27,10 +27,12 @@ use Rattle.rule_copy_range.specs.declared.CopyExtent.{CopyExtent}
 use Rattle.rule_copy_range.specs.Range.{layersOf, arrayLayerCount}
 use Rattle.rule_linear_data.specs.Linear.{stacked, imageStride, dataOf, denseOf}
 use Rattle.rule_linear_data.specs.Laws.{LinearLaws}
-use Rattle.copy_buffers.specs.declared.BufferPlan.{BufferPlan}
+use Rattle.plan_buffers.specs.declared.BufferPlan.{BufferPlan}
+use Rattle.plan_buffers.specs.Plan as K
 use Rattle.copy_buffers.specs.declared.BufferPlanned.{BufferPlanned}
 use Rattle.copy_buffers.specs.declared.BufferPlanned.the-variants as B
-use Rattle.copy_buffers.specs.BufferCopies as K
+use Rattle.copy_buffers.specs.Copy as D
+use Rattle.copy_buffers.specs.Plan.{bufferToBuffer}
 use Rattle.copy_buffers.proofs.Accepted.{every-copy-law as buffers-law}
 use Rattle.plan_buffer_texture.specs.declared.BufferTexturePlan.{BufferTexturePlan}
 use Rattle.plan_buffer_texture.specs.Plan.{firstRegion, planOf}
@@ -65,11 +67,11 @@ buffers-by (B.Plan p) h = h p refl
 buffers-by (B.Refused e) h = tt
 
 pub buffers-fit :
-    (device : Device) (i : ℕ) (src : Buffer) (from j : ℕ) (dst : Buffer) (to : ℕ) (size : OptionU64) → BuffersFit (K.bufferToBuffer device i src from j dst to size)
-unfolding K.bufferToBuffer K.planOf numbers
+    (device : Device) (i : ℕ) (src : Buffer) (from j : ℕ) (dst : Buffer) (to : ℕ) (size : OptionU64) → BuffersFit (bufferToBuffer device i src from j dst to size)
+unfolding bufferToBuffer K.planOf numbers
 buffers-fit device i src from j dst to size =
-    let c : K.Copy = record { device = device; src-index = i; src = src; src-offset = from; dst-index = j; dst = dst; dst-offset = to; size = size } in
-    buffers-by (K.bufferToBuffer device i src from j dst to size) λ p e some.
+    let c : D.Copy = record { device = device; src-index = i; src = src; src-offset = from; dst-index = j; dst = dst; dst-offset = to; size = size } in
+    buffers-by (bufferToBuffer device i src from j dst to size) λ p e some.
     let a = buffers-law c .is-accepted p e in
     let s = buffer-laws src (a .0 .src-bounds) in
     let d = buffer-laws dst (a .0 .dst-bounds) in

@@ -2,8 +2,8 @@
 -- Assumes nothing.
 use mathlib.Core.Path.{refl, ap}
 use mathlib.Core.List.{List, map}
-use Rattle.copy_buffers.specs.declared.BufferCopy.{BufferCopy}
-use Rattle.copy_buffers.specs.declared.BufferPlan.{BufferPlan}
+use Rattle.plan_buffers.specs.declared.BufferCopy.{BufferCopy}
+use Rattle.plan_buffers.specs.declared.BufferPlan.{BufferPlan}
 use Rattle.plan_buffer_texture.specs.declared.BufferTextureCopy.{BufferTextureCopy}
 use Rattle.plan_buffer_texture.specs.declared.BufferTexturePlan.{BufferTexturePlan}
 use Rattle.plan_textures.specs.declared.TextureCopy.{TextureCopy}

@@ -14,7 +14,7 @@ use Rattle.flags.specs.FormatAspects.{DEPTH, STENCIL, PLANE-0, PLANE-1}
 use Rattle.rule_copy_range.specs.declared.CopyExtent.{CopyExtent}
 use Rattle.rule_selectors.specs.declared.TextureCopyBase.{TextureCopyBase}
 use Rattle.rule_selectors.specs.Selector.{nextLayer}
-use Rattle.copy_buffers.specs.BufferCopies as K
+use Rattle.plan_buffers.specs.Asking as K
 use Rattle.plan_buffer_texture.specs.declared.BufferTexturePlan.{BufferTexturePlan}
 use Rattle.plan_buffer_texture.specs.Asking as L
 use Rattle.plan_textures.specs.declared.CopyParts.{CopyParts}

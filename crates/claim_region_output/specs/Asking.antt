@@ -2,10 +2,10 @@
 -- advanced plan; past the end the plan is unchanged.
 use mathlib.Core.Path.{_≡_}
 use mathlib.Core.List.{List, [], _∷_}
-use Rattle.copy_buffers.specs.declared.BufferCopy.{BufferCopy}
-use Rattle.copy_buffers.specs.declared.NextBufferCopy.{NextBufferCopy}
-use Rattle.copy_buffers.specs.declared.NextBufferCopy.the-variants as B
-use Rattle.copy_buffers.specs.BufferCopies.{nextOf as nextBuffers}
+use Rattle.plan_buffers.specs.declared.BufferCopy.{BufferCopy}
+use Rattle.plan_buffers.specs.declared.NextBufferCopy.{NextBufferCopy}
+use Rattle.plan_buffers.specs.declared.NextBufferCopy.the-variants as B
+use Rattle.plan_buffers.specs.Asking.{nextOf as nextBuffers}
 use Rattle.plan_buffer_texture.specs.declared.BufferTextureCopy.{BufferTextureCopy}
 use Rattle.plan_buffer_texture.specs.declared.NextBufferTextureCopy.{NextBufferTextureCopy}
 use Rattle.plan_buffer_texture.specs.declared.NextBufferTextureCopy.the-variants as U

@@ -4,9 +4,9 @@ use mathlib.Core.Path.{_≡_}
 use mathlib.Core.List.{[], map}
 use Prim.Native.Nat.{ℕ, _<_}
 use Rattle.records.specs.declared.Device.{Device}
-use Rattle.copy_buffers.specs.declared.BufferPlan.{BufferPlan}
+use Rattle.plan_buffers.specs.declared.BufferPlan.{BufferPlan}
 use Rattle.copy_buffers.specs.declared.BufferPlanned.the-variants as K
-use Rattle.copy_buffers.specs.BufferCopies.{bufferToBuffer}
+use Rattle.copy_buffers.specs.Plan.{bufferToBuffer}
 use Rattle.plan_buffer_texture.specs.declared.BufferTexturePlan.{BufferTexturePlan}
 use Rattle.copy_buffer_texture.specs.declared.BufferTexturePlanned.the-variants as U
 use Rattle.plan_textures.specs.declared.TexturePlan.{TexturePlan}

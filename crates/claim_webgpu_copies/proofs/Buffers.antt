@@ -13,7 +13,8 @@ use Rattle.flags.specs.Flags.{contains}
 use Rattle.records.specs.declared.Buffer.{Buffer}
 use Rattle.records.specs.declared.Device.{Device}
 use Rattle.records.specs.Bounds.{bufferInBounds}
-use Rattle.copy_buffers.specs.BufferCopies.{Copy, bytes, isShared, lacksIndexFact, sizeOr, bufferToBuffer}
+use Rattle.copy_buffers.specs.Copy.{Copy}
+use Rattle.copy_buffers.specs.Plan.{bytes, isShared, lacksIndexFact, sizeOr, bufferToBuffer}
 use Rattle.copy_buffers.specs.Laws.{Accepted}
 use Rattle.copy_buffers.proofs.Accepted.{every-copy-law}
 use Rattle.claim_webgpu_rules.specs.WebGpu.{Has, copySizeOf, CopyBufferToBuffer}

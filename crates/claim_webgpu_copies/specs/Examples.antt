@@ -16,7 +16,7 @@ use Rattle.records.specs.declared.TextureSide.{TextureSide}
 use Rattle.claim_webgpu_rules.specs.WebGpu as W
 use Rattle.claim_webgpu_copies.specs.WholeCopies.{GivesBufferPlan, planned, GivesPlan, StandardCopy, PlansTextures, StandardTextures}
 -- what is judged
-use Rattle.copy_buffers.specs.BufferCopies.{bufferToBuffer}
+use Rattle.copy_buffers.specs.Plan.{bufferToBuffer}
 
 -- ---- records as a sheet has them
 

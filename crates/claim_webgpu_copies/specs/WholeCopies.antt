@@ -10,7 +10,7 @@ use Rattle.measures.specs.declared.OptionU64.{OptionU64}
 use Rattle.formats.specs.declared.TextureAspect.the-variants.{All}
 use Rattle.records.specs.declared.Buffer.{Buffer}
 use Rattle.records.specs.declared.Device.{Device}
-use Rattle.copy_buffers.specs.declared.BufferPlan.{BufferPlan}
+use Rattle.plan_buffers.specs.declared.BufferPlan.{BufferPlan}
 use Rattle.copy_buffers.specs.declared.BufferPlanned.{BufferPlanned}
 use Rattle.copy_buffers.specs.declared.BufferPlanned.the-variants as B
 use Rattle.plan_buffer_texture.specs.declared.BufferTexturePlan.{BufferTexturePlan}
@@ -26,7 +26,7 @@ use Rattle.claim_webgpu_rules.specs.WebGpu as W
 use Rattle.claim_webgpu_rules.specs.Agreement.{SomeLayers, Fits32, MovesWithin}
 use Rattle.claim_webgpu_copies.specs.Bounds.{BufferInBounds, TextureInBounds}
 -- what is judged
-use Rattle.copy_buffers.specs.BufferCopies.{bufferToBuffer}
+use Rattle.copy_buffers.specs.Plan.{bufferToBuffer}
 use Rattle.copy_buffer_texture.specs.Plan.{bufferToTexture, textureToBuffer}
 use Rattle.copy_textures.specs.Plan.{textureToTexture}
 

@@ -13,10 +13,12 @@ use Rattle.refusals.specs.declared.TransferError.{TransferError}
 use Rattle.refusals.specs.Order.{decided}
 use Rattle.refusals.proofs.Order.{none-found, all-pass, test-fails, test-off}
 use Rattle.records.proofs.Checked.{buffer-of, buffer-passes}
-use Rattle.copy_buffers.specs.declared.BufferPlan.{BufferPlan}
+use Rattle.plan_buffers.specs.declared.BufferPlan.{BufferPlan}
+use Rattle.plan_buffers.specs.Plan.{planOf}
 use Rattle.copy_buffers.specs.declared.BufferPlanned.{BufferPlanned}
 use Rattle.copy_buffers.specs.declared.BufferPlanned.the-variants as P
-use Rattle.copy_buffers.specs.BufferCopies.{Copy, bytes, copyChecks, planOf, planned}
+use Rattle.copy_buffers.specs.Copy.{Copy}
+use Rattle.copy_buffers.specs.Plan.{bytes, copyChecks, planned}
 use Rattle.copy_buffers.specs.Laws.{Accepted, EveryCopyLaw}
 
 no-plan : (p : BufferPlan) (e : TransferError) → P.Refused e ≡ P.Plan p → ⊥

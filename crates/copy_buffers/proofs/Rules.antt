@@ -2,7 +2,7 @@
 -- Assumes nothing.
 use mathlib.Core.Path.{_≡_, ap}
 use Rattle.rule_answers.proofs.Rules.{copied}
-use Rattle.copy_buffers.specs.declared.BufferPlan.{BufferPlan}
+use Rattle.plan_buffers.specs.declared.BufferPlan.{BufferPlan}
 use Rattle.copy_buffers.specs.declared.BufferPlanned.the-variants as P
 
 -- an answer that is made of what a function gave

@@ -13,7 +13,7 @@ use Rattle.records.specs.declared.Device.{Device}
 use Rattle.rule_answers.proofs.Rules.{past-rule}
 use Rattle.copy_buffers.specs.declared.BufferPlanned.{BufferPlanned}
 use Rattle.copy_buffers.specs.declared.BufferPlanned.the-variants as P
-use Rattle.copy_buffers.specs.BufferCopies.{copyChecks, planned, bufferToBuffer}
+use Rattle.copy_buffers.specs.Plan.{copyChecks, planned, bufferToBuffer}
 use Rattle.copy_buffers.specs.Stages.{fittingCopy, sizedCopy, copyStaged}
 
 line-p : (t : Bool) (e : TransferError) (rest : BufferPlanned) → stop-if t (P.Refused e) rest ≡ first (refuse-if t e) P.Refused rest

@@ -6,9 +6,11 @@ use lib.Dec.{eqb}
 use Rattle.flags.specs.BufferUsages as BufferUsages
 use Rattle.flags.specs.Flags.{contains}
 use Rattle.records.specs.Bounds.{bufferInBounds}
-use Rattle.copy_buffers.specs.declared.BufferPlan.{BufferPlan}
+use Rattle.plan_buffers.specs.declared.BufferPlan.{BufferPlan}
+use Rattle.plan_buffers.specs.Plan.{planOf}
 use Rattle.copy_buffers.specs.declared.BufferPlanned.the-variants as P
-use Rattle.copy_buffers.specs.BufferCopies.{Copy, bytes, lacksIndexFact, planOf, planned}
+use Rattle.copy_buffers.specs.Copy.{Copy}
+use Rattle.copy_buffers.specs.Plan.{bytes, lacksIndexFact, planned}
 
 pub record Accepted (c : Copy) : Type 0 where
   pub src-bounds : bufferInBounds (c .src) ≡ true

@@ -1,3 +1,4 @@
-pub mod BufferCopies
+pub mod Copy
+pub mod Plan
 pub mod Stages
 pub mod Laws

@@ -16,9 +16,10 @@ use Rattle.records.specs.declared.Buffer.{Buffer}
 use Rattle.records.specs.declared.Device.{Device}
 use Rattle.records.specs.Bounds.{bufferChecks}
 use Rattle.rule_answers.specs.Stages.{after}
+use Rattle.plan_buffers.specs.Plan.{planOf}
 use Rattle.copy_buffers.specs.declared.BufferPlanned.{BufferPlanned}
 use Rattle.copy_buffers.specs.declared.BufferPlanned.the-variants as P
-use Rattle.copy_buffers.specs.BufferCopies.{sizeOr, lacksIndexFact, planOf}
+use Rattle.copy_buffers.specs.Plan.{sizeOr, lacksIndexFact}
 
 -- 8 source; 7, 8 destination
 unfoldable pub fittingCopy : Buffer → ℕ → Buffer → ℕ → ℕ → BufferPlanned

@@ -5,7 +5,7 @@ use Rattle.rule_init_ranges.specs.declared.TextureInitRange.{TextureInitRange}
 use Rattle.rule_init_ranges.specs.declared.BufferInitRanges.{BufferInitRanges}
 use Rattle.rule_init_ranges.specs.declared.OptionRange.{OptionRange}
 use Rattle.rule_init_ranges.specs.declared.OptionRange.the-variants as O
-use Rattle.copy_buffers.specs.declared.BufferPlan.{BufferPlan}
+use Rattle.plan_buffers.specs.declared.BufferPlan.{BufferPlan}
 use Rattle.plan_buffer_texture.specs.declared.CopyRanges.{CopyRanges}
 use Rattle.plan_buffer_texture.specs.declared.CopyRanges.the-variants as C
 use Rattle.plan_textures.specs.declared.TextureRanges.{TextureRanges}

@@ -10,7 +10,7 @@ use Rattle.records.specs.declared.TexelCopyTextureInfo.{TexelCopyTextureInfo}
 use Rattle.records.specs.declared.TexelCopyBufferLayout.{TexelCopyBufferLayout}
 use Rattle.copy_buffers.specs.declared.BufferPlanned.{BufferPlanned}
 use Rattle.copy_buffers.specs.declared.BufferPlanned.the-variants as B
-use Rattle.copy_buffers.specs.BufferCopies.{bufferToBuffer}
+use Rattle.copy_buffers.specs.Plan.{bufferToBuffer}
 use Rattle.copy_buffer_texture.specs.declared.BufferTexturePlanned.{BufferTexturePlanned}
 use Rattle.copy_buffer_texture.specs.declared.BufferTexturePlanned.the-variants as U
 use Rattle.copy_buffer_texture.specs.Plan.{bufferToTexture, textureToBuffer}

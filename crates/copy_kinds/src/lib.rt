@@ -5,13 +5,13 @@ ghost use Rattle.copy_kinds.specs.Requests.{ofBuffers, ofBufferTexture, 
 ghost use Prim.Native.Nat.{_≤_};
 ghost use Rattle.copy_kinds.specs.Ranges.{bufferSlot, noRanges, bufferRanges, textureAndBuffer, copyRanges, twoTextures, textureRanges, slotCount, countOf};
 use copy_buffer_texture::BufferTexturePlanned;
-use copy_buffers::BufferPlan;
 use copy_buffers::BufferPlanned;
 use copy_textures::TexturePlanned;
 use measures::Extent3d;
 use measures::OptionU64;
 use plan_buffer_texture::BufferTexturePlan;
 use plan_buffer_texture::CopyRanges;
+use plan_buffers::BufferPlan;
 use plan_kinds::Plan;
 use plan_textures::TexturePlan;
 use plan_textures::TextureRanges;

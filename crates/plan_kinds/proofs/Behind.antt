@@ -7,7 +7,7 @@ use native.Mathlib.Omega.{arith}
 use borrow.Author.Tests.{ne-eqb}
 use lib.Dec.{eqb}
 use Rattle.conditions.specs.Conditions.{pick, stop-if}
-use Rattle.copy_buffers.specs.BufferCopies as K
+use Rattle.plan_buffers.specs.Asking as K
 use Rattle.plan_buffer_texture.specs.Asking as L
 use Rattle.plan_textures.specs.Asking as X
 use Rattle.plan_textures.specs.declared.CopyParts.{CopyParts}

@@ -1,9 +1,9 @@
 -- The regions of a plan of any kind, as rows of numbers.
 use Prim.Native.Nat.{ℕ, zero, suc}
 use mathlib.Core.List.{List, [], _∷_}
-use Rattle.copy_buffers.specs.declared.NextBufferCopy.{NextBufferCopy}
-use Rattle.copy_buffers.specs.declared.NextBufferCopy.the-variants as B
-use Rattle.copy_buffers.specs.BufferCopies as K
+use Rattle.plan_buffers.specs.declared.NextBufferCopy.{NextBufferCopy}
+use Rattle.plan_buffers.specs.declared.NextBufferCopy.the-variants as B
+use Rattle.plan_buffers.specs.Asking as K
 use Rattle.plan_buffer_texture.specs.declared.NextBufferTextureCopy.{NextBufferTextureCopy}
 use Rattle.plan_buffer_texture.specs.declared.NextBufferTextureCopy.the-variants as U
 use Rattle.plan_buffer_texture.specs.Asking as L

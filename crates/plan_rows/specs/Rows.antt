@@ -12,7 +12,7 @@ use Rattle.rule_selectors.specs.declared.TextureCopyBase.{TextureCopyBase}
 use Rattle.rule_init_ranges.specs.declared.TextureInitRange.{TextureInitRange}
 use Rattle.rule_init_ranges.specs.declared.BufferInitRange.{BufferInitRange}
 use Rattle.rule_init_ranges.specs.Init.{kindNumber}
-use Rattle.copy_buffers.specs.declared.BufferCopy.{BufferCopy}
+use Rattle.plan_buffers.specs.declared.BufferCopy.{BufferCopy}
 use Rattle.plan_buffer_texture.specs.declared.BufferTextureCopy.{BufferTextureCopy}
 use Rattle.plan_textures.specs.declared.TextureCopy.{TextureCopy}
 use Rattle.plan_rows.specs.declared.Row.{Row}

@@ -1,9 +1,9 @@
 // Regions, ranges and refusals as rows of numbers, as the listing and the lent slice have them.
 ghost use mathlib.Core.Path.{_≡_};
 ghost use Rattle.plan_rows.specs.Rows.{orAbsent, rowOf, bufferCopyNumbers, bufferTextureCopyNumbers, textureCopyNumbers, textureRangeNumbers, bufferRangeNumbers, refusalNumbers};
-use copy_buffers::BufferCopy;
 use measures::OptionU32;
 use plan_buffer_texture::BufferTextureCopy;
+use plan_buffers::BufferCopy;
 use plan_textures::TextureCopy;
 use refusals::TransferError;
 use rule_init_ranges::BufferInitRange;

@@ -16,7 +16,7 @@ use Rattle.slices.specs.Put.{Put}
 use Rattle.slices.proofs.Puts.{sets-append, put-as, put-length}
 use Rattle.plan_rows.specs.Rows.{rowOf, bufferCopyNumbers, bufferTextureCopyNumbers, textureCopyNumbers}
 use Rattle.plan_rows.specs.declared.Row.{Row}
-use Rattle.copy_buffers.specs.BufferCopies as K
+use Rattle.plan_buffers.specs.Asking as K
 use Rattle.plan_buffer_texture.specs.Asking as L
 use Rattle.plan_textures.specs.declared.AskedTexture.{AskedTexture}
 use Rattle.plan_textures.specs.declared.TexturePlan.{TexturePlan}

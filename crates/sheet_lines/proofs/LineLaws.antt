@@ -9,8 +9,8 @@ use lib.ListN.{length, take, length-append}
 use Rattle.refusals.specs.declared.TransferError.{TransferError}
 use Rattle.rule_init_ranges.specs.declared.TextureInitRange.{TextureInitRange}
 use Rattle.rule_init_ranges.specs.declared.BufferInitRange.{BufferInitRange}
-use Rattle.copy_buffers.specs.declared.NextBufferCopy.{NextBufferCopy}
-use Rattle.copy_buffers.specs.declared.NextBufferCopy.the-variants as B
+use Rattle.plan_buffers.specs.declared.NextBufferCopy.{NextBufferCopy}
+use Rattle.plan_buffers.specs.declared.NextBufferCopy.the-variants as B
 use Rattle.plan_buffer_texture.specs.declared.NextBufferTextureCopy.{NextBufferTextureCopy}
 use Rattle.plan_buffer_texture.specs.declared.NextBufferTextureCopy.the-variants as U
 use Rattle.plan_textures.specs.declared.NextTextureCopy.{NextTextureCopy}

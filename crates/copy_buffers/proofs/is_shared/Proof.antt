@@ -1,7 +1,7 @@
 -- `is_shared` meets its contract.
 -- Assumes nothing.
 use borrow.Author.Needs.{needs}
-use Rattle.copy_buffers.specs.BufferCopies.{isShared}
+use Rattle.copy_buffers.specs.Plan.{isShared}
 use Rattle.copy_buffers.proofs.is_shared.Statement.{statement}
 use Rattle.copy_buffers.proofs.is_shared.Tie as tie
 

@@ -1,7 +1,7 @@
 -- `lacks_index_fact` meets its contract.
 -- Assumes nothing.
 use borrow.Author.Needs.{needs}
-use Rattle.copy_buffers.specs.BufferCopies.{lacksIndexFact}
+use Rattle.copy_buffers.specs.Plan.{lacksIndexFact}
 use Rattle.copy_buffers.proofs.lacks_index_fact.Statement.{statement}
 use Rattle.copy_buffers.proofs.lacks_index_fact.Tie as tie
 

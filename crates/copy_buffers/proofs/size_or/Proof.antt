@@ -1,7 +1,7 @@
 -- `size_or` meets its contract.
 -- Assumes nothing.
 use borrow.Author.Needs.{needs}
-use Rattle.copy_buffers.specs.BufferCopies.{sizeOr}
+use Rattle.copy_buffers.specs.Plan.{sizeOr}
 use Rattle.copy_buffers.proofs.size_or.Statement.{statement}
 use Rattle.copy_buffers.proofs.size_or.Tie as tie
 

@@ -3,7 +3,7 @@
 use mathlib.Core.Path.{ap, _∙_}
 use borrow.Author.Needs.{needs}
 use Rattle.plan_rows.specs.Rows.{rowOf}
-use Rattle.copy_buffers.specs.declared.AskedBuffer.{AskedBuffer}
+use Rattle.plan_buffers.specs.declared.AskedBuffer.{AskedBuffer}
 use Rattle.plan_kinds.specs.declared.Plan.the-variants.{Buffers}
 use Rattle.plan_kinds.specs.Regions.{leftOf, fieldsOf, bufferNumbers, numbersOf, behindOf}
 use Rattle.plan_writer.proofs.Writes.{Underway, begun, fewer, row-held, row-room, again, ended}

@@ -2,10 +2,10 @@
 -- Assumes nothing.
 use borrow.Author.Tests.{eq-eqb, ne-eqb}
 use borrow.Author.Needs.{needs}
-use Rattle.copy_buffers.specs.BufferCopies.{nextOf}
+use Rattle.plan_buffers.specs.Asking.{nextOf}
 use Rattle.conditions.specs.Conditions.{stop-if}
-use Rattle.copy_buffers.proofs.BufferPlan.next.Statement.{statement}
-use Rattle.copy_buffers.proofs.BufferPlan.next.Tie as tie
+use Rattle.plan_buffers.proofs.BufferPlan.next.Statement.{statement}
+use Rattle.plan_buffers.proofs.BufferPlan.next.Tie as tie
 
 returns : tie.Need-returns
 unfolding nextOf stop-if

@@ -1,9 +1,8 @@
--- Copies from buffer to buffer: the checks in their order, the plan, and asking it for its next region.
-use Prim.Native.Nat.{ℕ, _+_, _-_}
+-- Copies from buffer to buffer: the checks in their order, and the plan.
+use Prim.Native.Nat.{ℕ, _-_}
 use mathlib.Core.Bool.{Bool, _&&_, _||_, not}
 use mathlib.Core.List.{[], _∷_, flatten}
 use lib.Dec.{eqb, ltb}
-use Rattle.conditions.specs.Conditions.{pick, stop-if, _$_}
 use Rattle.measures.specs.declared.OptionU64.{OptionU64}
 use Rattle.measures.specs.declared.OptionU64.the-variants as O
 use Rattle.measures.specs.Measure.{multiple}
@@ -16,24 +15,10 @@ use Rattle.refusals.specs.Order.{Checks, refuse-if, decided}
 use Rattle.records.specs.declared.Buffer.{Buffer}
 use Rattle.records.specs.declared.Device.{Device}
 use Rattle.records.specs.Bounds.{bufferChecks}
-use Rattle.rule_init_ranges.specs.declared.MemoryInitKind.the-variants.{ImplicitlyInitialized, NeedsInitializedMemory}
-use Rattle.rule_init_ranges.specs.Init.{bufferRange, unless}
-use Rattle.copy_buffers.specs.declared.BufferPlan.{BufferPlan}
+use Rattle.plan_buffers.specs.Plan.{planOf}
 use Rattle.copy_buffers.specs.declared.BufferPlanned.{BufferPlanned}
 use Rattle.copy_buffers.specs.declared.BufferPlanned.the-variants as P
-use Rattle.copy_buffers.specs.declared.NextBufferCopy.the-variants.{Region, NoneLeft}
-use Rattle.copy_buffers.specs.declared.AskedBuffer.{AskedBuffer}
-
--- a copy from one buffer into another; they are told apart by their indices
-pub record Copy : Type 0 where
-  pub device : Device
-  pub src-index : ℕ
-  pub src : Buffer
-  pub src-offset : ℕ
-  pub dst-index : ℕ
-  pub dst : Buffer
-  pub dst-offset : ℕ
-  pub size : OptionU64
+use Rattle.copy_buffers.specs.Copy.{Copy}
 
 -- an absent size is source size − offset
 unfoldable pub sizeOr : OptionU64 → ℕ → ℕ
@@ -69,37 +54,9 @@ copyChecks c =
     ∷ refuse-if (ltb (c .dst .size - c .dst-offset) (bytes c)) (E.BufferEndOffsetOverrun (c .dst-offset) (bytes c) (c .dst .size) Destination)  -- 8
     ∷ []
 
--- one region and two ranges, the destination's first; none of them where the size is 0
-unfoldable pub planOf : ℕ → ℕ → ℕ → BufferPlan
-planOf srcOffset dstOffset size =
-    record {
-      region = record { «src_offset» = srcOffset; «dst_offset» = dstOffset; size = size };
-      left = pick (eqb size 0) 0 1;
-      «dst_range» = unless (eqb size 0) (bufferRange dstOffset (dstOffset + size) ImplicitlyInitialized);
-      «src_range» = unless (eqb size 0) (bufferRange srcOffset (srcOffset + size) NeedsInitializedMemory);
-      «bytes_checked» = size;
-    }
-
 unfoldable pub planned : Copy → BufferPlanned
 planned c = decided (copyChecks c) P.Refused (P.Plan (planOf (c .src-offset) (c .dst-offset) (bytes c)))
 
 unfoldable pub bufferToBuffer : Device → ℕ → Buffer → ℕ → ℕ → Buffer → ℕ → OptionU64 → BufferPlanned
 bufferToBuffer device i src srcOffset j dst dstOffset size =
     planned (record { device = device; src-index = i; src = src; src-offset = srcOffset; dst-index = j; dst = dst; dst-offset = dstOffset; size = size })
-
--- the plan with one region fewer
-unfoldable pub advanced : BufferPlan → BufferPlan
-advanced p =
-    record {
-      region = p .region;
-      left = p .left - 1;
-      «dst_range» = p .«dst_range»;
-      «src_range» = p .«src_range»;
-      «bytes_checked» = p .«bytes_checked»;
-    }
-
--- none left, and the plan unchanged; else its region beside the advanced plan
-unfoldable pub nextOf : BufferPlan → AskedBuffer
-nextOf p =
-    stop-if (eqb (p .left) 0) (record { answer = NoneLeft; plan = p }) $
-    record { answer = Region (p .region); plan = advanced p }
