@@ -14,14 +14,14 @@ use Rattle.rule_init_ranges.specs.Init.{unless}
 use Rattle.plan_buffers.specs.declared.BufferCopy.{BufferCopy}
 use Rattle.plan_buffers.specs.declared.BufferPlan.{BufferPlan}
 use Rattle.plan_buffers.specs.Plan.{planOf}
-use Rattle.copy_buffers.specs.Plan.{sizeOr}
+use Rattle.copy_buffers.specs.Plan as planner
 use Rattle.claim_buffer_regions.specs.Regions.{Copy, sizeOr, bytes, isEmpty}
 use Rattle.claim_buffer_regions.specs.Claim.{Gives, Planned, EveryBufferCopy}
 use Rattle.claim_buffer_regions.proofs.Accepted.{Checks, checks-of}
 use Rattle.claim_buffer_regions.proofs.Asks.{gives-none, gives-one, none-only, one-only}
 
-same-size : (size : OptionU64) (rest : ℕ) → sizeOr size rest ≡ sizeOr size rest
-unfolding sizeOr
+same-size : (size : OptionU64) (rest : ℕ) → planner.sizeOr size rest ≡ sizeOr size rest
+unfolding planner.sizeOr
 same-size (O.Given n) rest = refl
 same-size O.Absent rest = refl
 

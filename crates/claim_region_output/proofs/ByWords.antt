@@ -9,7 +9,7 @@ use borrow.Author.Tests.{eq-eqb, ne-eqb, le-leb, lt-leb}
 use lib.ListN.{length}
 use Rattle.measures.specs.declared.OptionU32.{OptionU32}
 use Rattle.measures.specs.declared.OptionU32.the-variants.{Given, Absent}
-use Rattle.plan_rows.specs.Rows.{baseNumbers, sizeNumbers}
+use Rattle.plan_rows.specs.Rows.{baseNumbers as baseRow, sizeNumbers}
 use Rattle.plan_kinds.specs.declared.Plan.{Plan}
 use Rattle.plan_kinds.specs.declared.Plan.the-variants.{Buffers, BufferTexture, Textures}
 use Rattle.plan_kinds.specs.Regions.{leftOf, behindOf, regionsFrom, regionsLeft}
@@ -92,7 +92,7 @@ narrowed (Buffers p) h = h
 narrowed (BufferTexture p) h =
     let r = p .region in
     let o = narrow-options (r .«bytes_per_row») (r .«rows_per_image») (baseNumbers (r .base) ++ sides (r .size)) (h .1) in
-    (h .0, narrow-given (baseNumbers (r .base) ++ sizeNumbers (r .size)) (givenNumbers (r .«bytes_per_row») ++ givenNumbers (r .«rows_per_image»)) (o .1) (o .0))
+    (h .0, narrow-given (baseRow (r .base) ++ sizeNumbers (r .size)) (givenNumbers (r .«bytes_per_row») ++ givenNumbers (r .«rows_per_image»)) (o .1) (o .0))
 narrowed (Textures p) h = h
 
 -- ---- writing by words
