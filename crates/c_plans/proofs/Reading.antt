@@ -51,13 +51,13 @@ narrow-both [] b h = (tt, h)
 narrow-both (x ∷ a) b h = let r = narrow-both a b (h .1) in ((h .0, r .0), r .1)
 
 module _ (rest : List ℕ) where
-  base-back : (b : TextureCopyBase) → Narrow (baseNumbers b ++ rest) → baseFrom (b .«mip_level») (b .«array_layer») (b .origin .x) (b .origin .y) (b .origin .z) (b .aspect .0) ≡ b
+  base-back : (b : TextureCopyBase) → Narrow (baseNumbers b ++ rest) → baseFrom (b .«mip_level») (b .«array_layer») (b .origin .x .0) (b .origin .y .0) (b .origin .z) (b .aspect .0) ≡ b
   unfolding baseFrom
   base-back b h =
-      rw (low-is (b .«mip_level») (h .0), low-is (b .«array_layer») (h .1 .0), low-is (b .origin .x) (h .1 .1 .0), low-is (b .origin .y) (h .1 .1 .1 .0), low-is (b .origin .z) (h .1 .1 .1 .1 .0), low-is (b .aspect .0) (h .1 .1 .1 .1 .1 .0))
+      rw (low-is (b .«mip_level») (h .0), low-is (b .«array_layer») (h .1 .0), low-is (b .origin .x .0) (h .1 .1 .0), low-is (b .origin .y .0) (h .1 .1 .1 .0), low-is (b .origin .z) (h .1 .1 .1 .1 .0), low-is (b .aspect .0) (h .1 .1 .1 .1 .1 .0))
 
-  extent-back : (e : CopyExtent) → Narrow (sizeNumbers e ++ rest) → extentFrom (e .width) (e .height) (e .depth) ≡ e
-  extent-back e h = rw (low-is (e .width) (h .0), low-is (e .height) (h .1 .0), low-is (e .depth) (h .1 .1 .0))
+  extent-back : (e : CopyExtent) → Narrow (sizeNumbers e ++ rest) → extentFrom (e .width .0) (e .height .0) (e .depth) ≡ e
+  extent-back e h = rw (low-is (e .width .0) (h .0), low-is (e .height .0) (h .1 .0), low-is (e .depth) (h .1 .1 .0))
 
 read : (p : Plan) → Narrow (narrowNumbers p) → readBack p ≡ withoutRanges p
 unfolding readBack withoutRanges narrowNumbers buffersFrom bufferTextureFrom texturesFrom bufferWords bufferTextureWords textureWords bufferTextureCopyNumbers

@@ -6,6 +6,7 @@ use lib.ListN.{getD}
 use Rattle.conditions.specs.Conditions.{pick}
 use Rattle.measures.specs.declared.OptionU32.{OptionU32}
 use Rattle.measures.specs.declared.OptionU32.the-variants.{Given, Absent}
+use Rattle.measures.specs.Measure.{texels}
 use Rattle.rule_copy_range.specs.declared.CopyExtent.{CopyExtent}
 use Rattle.rule_selectors.specs.declared.TextureCopyBase.{TextureCopyBase}
 use Rattle.rule_init_ranges.specs.declared.OptionRange.the-variants as O
@@ -34,12 +35,12 @@ baseFrom level layer x y z aspect =
     record {
       «mip_level» = low level;
       «array_layer» = low layer;
-      origin = record { x = low x; y = low y; z = low z };
+      origin = record { x = texels (low x); y = texels (low y); z = low z };
       aspect = record { 0 = low aspect };
     }
 
 abbrev pub extentFrom : ℕ → ℕ → ℕ → CopyExtent
-extentFrom width height depth = record { width = low width; height = low height; depth = low depth }
+extentFrom width height depth = record { width = texels (low width); height = texels (low height); depth = low depth }
 
 unfoldable pub buffersFrom : List ℕ → BufferPlan
 buffersFrom w =

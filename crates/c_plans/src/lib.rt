@@ -5,6 +5,7 @@ ghost use Rattle.c_plans.specs.PlanWords.{low, optionFrom, partsFrom, ba
 use flags::FormatAspects;
 use measures::OptionU32;
 use measures::Origin3d;
+use measures::Texels;
 use plan_buffer_texture::BufferTextureCopy;
 use plan_buffer_texture::BufferTexturePlan;
 use plan_buffer_texture::CopyRanges;
@@ -52,8 +53,8 @@ fn base_from(level: u64, layer: u64, x: u64, y: u64, z: u64, aspect: u64) -> Tex
     ensures { λ r. ⌜ r ≡ baseFrom level layer x y z aspect ⌝ }
 {
     let origin = Origin3d {
-        x: low_bits(x),
-        y: low_bits(y),
+        x: Texels(low_bits(x)),
+        y: Texels(low_bits(y)),
         z: low_bits(z),
     };
     TextureCopyBase {
@@ -68,8 +69,8 @@ fn extent_from(width: u64, height: u64, depth: u64) -> CopyExtent
     ensures { λ r. ⌜ r ≡ extentFrom width height depth ⌝ }
 {
     CopyExtent {
-        width: low_bits(width),
-        height: low_bits(height),
+        width: Texels(low_bits(width)),
+        height: Texels(low_bits(height)),
         depth: low_bits(depth),
     }
 }

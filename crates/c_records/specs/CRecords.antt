@@ -9,6 +9,7 @@ use Rattle.measures.specs.declared.OptionU32.{OptionU32}
 use Rattle.measures.specs.declared.OptionU32.the-variants as W
 use Rattle.measures.specs.declared.OptionU64.{OptionU64}
 use Rattle.measures.specs.declared.OptionU64.the-variants as L
+use Rattle.measures.specs.Measure.{texels}
 use Rattle.records.specs.declared.Buffer.{Buffer}
 use Rattle.records.specs.declared.Texture.{Texture}
 use Rattle.records.specs.declared.TexelCopyTextureInfo.{TexelCopyTextureInfo}
@@ -36,7 +37,7 @@ textureFrom t =
     record {
       format = getD t 0 0;
       dimension = getD t 1 0;
-      size = record { width = getD t 2 0; height = getD t 3 0; «depth_or_array_layers» = getD t 4 0 };
+      size = record { width = texels (getD t 2 0); height = texels (getD t 3 0); «depth_or_array_layers» = getD t 4 0 };
       «mip_level_count» = getD t 5 0;
       «sample_count» = getD t 6 0;
       usage = record { 0 = getD t 7 0 };
@@ -47,10 +48,10 @@ unfoldable pub viewFrom : List ℕ → TexelCopyTextureInfo
 viewFrom v =
     record {
       «mip_level» = getD v 0 0;
-      origin = record { x = getD v 1 0; y = getD v 2 0; z = getD v 3 0 };
+      origin = record { x = texels (getD v 1 0); y = texels (getD v 2 0); z = getD v 3 0 };
       aspect = aspectOf (getD v 4 0);
     }
 
 -- width, height, depth or layers
 unfoldable pub sizeFrom : List ℕ → Extent3d
-sizeFrom s = record { width = getD s 0 0; height = getD s 1 0; «depth_or_array_layers» = getD s 2 0 }
+sizeFrom s = record { width = texels (getD s 0 0); height = texels (getD s 1 0); «depth_or_array_layers» = getD s 2 0 }

@@ -9,6 +9,7 @@ use measures::Extent3d;
 use measures::OptionU32;
 use measures::OptionU64;
 use measures::Origin3d;
+use measures::Texels;
 use records::Buffer;
 use records::TexelCopyBufferLayout;
 use records::TexelCopyTextureInfo;
@@ -64,8 +65,8 @@ pub fn texture_from(t: &[u32; 8]) -> Texture
     ensures { λ r. ⌜ r ≡ textureFrom (now (t .entry)) ⌝ }
 {
     let size = Extent3d {
-        width: t[2],
-        height: t[3],
+        width: Texels(t[2]),
+        height: Texels(t[3]),
         depth_or_array_layers: t[4],
     };
     Texture {
@@ -89,8 +90,8 @@ pub fn view_from(v: &[u32; 5]) -> TexelCopyTextureInfo
     ensures { λ r. ⌜ r ≡ viewFrom (now (v .entry)) ⌝ }
 {
     let origin = Origin3d {
-        x: v[1],
-        y: v[2],
+        x: Texels(v[1]),
+        y: Texels(v[2]),
         z: v[3],
     };
     let aspect = aspect_from(v[4]);
@@ -106,8 +107,8 @@ pub fn size_from(s: &[u32; 3]) -> Extent3d
     ensures { λ r. ⌜ r ≡ sizeFrom (now (s .entry)) ⌝ }
 {
     Extent3d {
-        width: s[0],
-        height: s[1],
+        width: Texels(s[0]),
+        height: Texels(s[1]),
         depth_or_array_layers: s[2],
     }
 }

@@ -8,6 +8,7 @@ use native.Mathlib.Nat.{mod-eq-of-lt, div-one}
 use borrow.Author.Tests.{ne-eqb}
 use lib.Dec.{eqb}
 use lib.ListN.{drop}
+use Rattle.measures.specs.Measure.{dividedBy}
 use Rattle.conditions.specs.Conditions.{stop-if}
 use Rattle.flags.specs.FormatAspects.{DEPTH, STENCIL, PLANE-0}
 use Rattle.plan_rows.specs.Rows.{bufferCopyNumbers, bufferTextureCopyNumbers, textureCopyNumbers}
@@ -27,13 +28,13 @@ use Rattle.c_regions.specs.Laws.{regionFrom, wordsBehind, NextAgrees, Ev
 
 -- a part as large as the layer differs from it in its aspects alone
 full : (p : TexturePlan) (aspects : ℕ) → withAspects aspects aspects (drop 3 (textureWords p)) ≡ textureCopyNumbers (X.regionAs p aspects 1)
-unfolding withAspects textureWords textureCopyNumbers X.regionAs X.baseAs X.sizeBy
+unfolding withAspects textureWords textureCopyNumbers X.regionAs X.baseAs X.sizeBy dividedBy
 full p aspects =
-    cc (div-one (p .src .origin .x), div-one (p .src .origin .y), div-one (p .dst .origin .x), div-one (p .dst .origin .y), div-one (p .size .width), div-one (p .size .height))
+    cc (div-one (p .src .origin .x .0), div-one (p .src .origin .y .0), div-one (p .dst .origin .x .0), div-one (p .dst .origin .y .0), div-one (p .size .width .0), div-one (p .size .height .0))
 
 module _ (p : TexturePlan) (n : p .left < 2 ^ 32) (some-left : eqb (p .left) 0 ≡ false) where
   by-parts : (parts : CopyParts) (first : Bool) → p .parts ≡ parts → eqb (p .part) 0 ≡ first → NextAgrees (Textures p)
-  unfolding regionFrom numbersOf wordsBehind wordsOf behindOf X.nextOf stop-if textureNumbers textureCopyNumbers X.regionOf X.regionAs X.baseAs X.sizeBy X.advanced X.otherPart X.otherLayer nextLayer textureWords partsNumber withAspects halved depthOrStencil textureRegion partFollows partOn textureBehind
+  unfolding regionFrom numbersOf wordsBehind wordsOf behindOf X.nextOf stop-if textureNumbers textureCopyNumbers X.regionOf X.regionAs X.baseAs X.sizeBy dividedBy X.advanced X.otherPart X.otherLayer nextLayer textureWords partsNumber withAspects halved depthOrStencil textureRegion partFollows partOn textureBehind
   by-parts Whole first e f = rw (e, some-left, mod-eq-of-lt n) (refl, refl)
   by-parts DepthStencil true e f = rw (e, f, some-left, mod-eq-of-lt n) (full p DEPTH, refl)
   by-parts DepthStencil false e f = rw (e, f, some-left, mod-eq-of-lt n) (full p STENCIL, refl)

@@ -14,7 +14,7 @@ use Rattle.measures.specs.declared.Extent3d.{Extent3d}
 use Rattle.measures.specs.declared.OptionU32.{OptionU32}
 use Rattle.measures.specs.declared.OptionU32.the-variants as O
 use Rattle.measures.specs.Measure.{orElse}
-use Rattle.mip_levels.specs.Level.{textureDimension, sideAt, mipLevelSize}
+use Rattle.mip_levels.specs.Level.{textureDimension, sideAt, mipLevelSize, texelsAt}
 use Rattle.mip_levels.proofs.Halving.{level-laws}
 use Rattle.formats.specs.declared.TextureAspect.{TextureAspect}
 use Rattle.formats.specs.declared.TextureAspect.the-variants.{All, StencilOnly, DepthOnly, Plane0, Plane1, Plane2}
@@ -89,13 +89,13 @@ bounds : (least n most : ℕ) → within least n most ≡ true → (least ≤ n)
 unfolding within
 bounds least n most e = let p = both-true _ _ e in (leb-true _ _ (p .0), leb-true _ _ (p .1))
 
-flat : (e : Extent3d) → sizeInBounds (textureDimension 1) e ≡ true → e .height ≡ 1
+flat : (e : Extent3d) → sizeInBounds (textureDimension 1) e ≡ true → e .height .0 ≡ 1
 unfolding sizeInBounds textureDimension stop-if
-flat e h = eqb-true _ _ (all-true (within 1 (e .width) maxSide ∷ eqb (e .height) 1 ∷ eqb (e .«depth_or_array_layers») 1 ∷ []) h .1 .0)
+flat e h = eqb-true _ _ (all-true (within 1 (e .width .0) maxSide ∷ eqb (e .height .0) 1 ∷ eqb (e .«depth_or_array_layers») 1 ∷ []) h .1 .0)
 
 -- a texture is 1D, of height 1, or 2D, or 3D
 abbrev pub Dimensioned : Texture → Type 0
-Dimensioned t = ((t .dimension ≡ 1) × (t .size .height ≡ 1)) ⊎ ((t .dimension ≡ 2) ⊎ (t .dimension ≡ 3))
+Dimensioned t = ((t .dimension ≡ 1) × (t .size .height .0 ≡ 1)) ⊎ ((t .dimension ≡ 2) ⊎ (t .dimension ≡ 3))
 
 pub known : (t : Texture) → textureInBounds t ≡ true → (isFormat (t .format) ≡ true) × Dimensioned t
 unfolding textureInBounds fieldsInBounds
@@ -132,7 +132,7 @@ unfolding textureDimension stop-if
 by-3 z d = record { layers = refl; depth = refl; layer = refl; z = omega arith; range = refl }
 
 one-deep : (e : Extent3d) (level : ℕ) → mipLevelSize (textureDimension 1) e level .«depth_or_array_layers» ≡ 1
-unfolding mipLevelSize textureDimension stop-if
+unfolding texelsAt mipLevelSize textureDimension stop-if
 one-deep e level = refl
 
 pub by-dimension :
@@ -164,10 +164,10 @@ module _ (size e : Extent3d) (level : ℕ) (a : TextureAspect) (p q : MemoryInit
   plans n = pick (I.sizeDiffers (textureDimension n) size (mipLevelSize (textureDimension n) e level) || not (I.isAll a)) p q
 
   abbrev w : Bool
-  w = eqb (size .width) (max 1 (e .width / 2 ^ level))
+  w = eqb (size .width .0) (max 1 (e .width .0 / 2 ^ level))
 
   abbrev h : Bool
-  h = eqb (size .height) (max 1 (e .height / 2 ^ level))
+  h = eqb (size .height .0) (max 1 (e .height .0 / 2 ^ level))
 
   abbrev d : Bool
   d = eqb (size .«depth_or_array_layers») (max 1 (e .«depth_or_array_layers» / 2 ^ level))
@@ -175,17 +175,17 @@ module _ (size e : Extent3d) (level : ℕ) (a : TextureAspect) (p q : MemoryInit
   abbrev claims : ℕ → MemoryInitKind
   claims n = cond (w && (h && ((not (eqb n 3) || d) && isAll a))) q p
 
-  kind-1 : e .height ≡ 1 → plans 1 ≡ claims 1
-  unfolding I.sizeDiffers mipLevelSize textureDimension stop-if
-  kind-1 low = rw (low, stays level, side-is (e .width) level, all-is a) (flip w (eqb (size .height) 1) true (isAll a) p q)
+  kind-1 : e .height .0 ≡ 1 → plans 1 ≡ claims 1
+  unfolding I.sizeDiffers texelsAt mipLevelSize textureDimension stop-if
+  kind-1 low = rw (low, stays level, side-is (e .width .0) level, all-is a) (flip w (eqb (size .height .0) 1) true (isAll a) p q)
 
   kind-2 : plans 2 ≡ claims 2
-  unfolding I.sizeDiffers mipLevelSize textureDimension stop-if
-  kind-2 = rw (side-is (e .width) level, side-is (e .height) level, all-is a) (flip w h true (isAll a) p q)
+  unfolding I.sizeDiffers texelsAt mipLevelSize textureDimension stop-if
+  kind-2 = rw (side-is (e .width .0) level, side-is (e .height .0) level, all-is a) (flip w h true (isAll a) p q)
 
   kind-3 : plans 3 ≡ claims 3
-  unfolding I.sizeDiffers mipLevelSize textureDimension stop-if
-  kind-3 = rw (side-is (e .width) level, side-is (e .height) level, side-is (e .«depth_or_array_layers») level, all-is a) (flip w h d (isAll a) p q)
+  unfolding I.sizeDiffers texelsAt mipLevelSize textureDimension stop-if
+  kind-3 = rw (side-is (e .width .0) level, side-is (e .height .0) level, side-is (e .«depth_or_array_layers») level, all-is a) (flip w h d (isAll a) p q)
 
 pub kind-is : (t : Texture) (size : Extent3d) (level : ℕ) (a : TextureAspect) (p q : MemoryInitKind) → Dimensioned t → plans size (t .size) level a p q (t .dimension) ≡ claims size (t .size) level a p q (t .dimension)
 kind-is t size level a p q (inl (e, low)) = rw e (kind-1 size (t .size) level a p q low)

@@ -32,7 +32,7 @@ layered : (t : Bool) (d m : ℕ) → 0 < m → m < cond t d 1 → (t ≡ true) �
 layered true d m p h = (refl, h)
 layered false d m p h = absurd (omega arith)
 
-module _ (c : Copy) (s : Sound c) (pw : 0 < c .size .width) (ph : 0 < c .size .height) (pd : 0 < depth c) where
+module _ (c : Copy) (s : Sound c) (pw : 0 < c .size .width .0) (ph : 0 < c .size .height .0) (pd : 0 < depth c) where
   -- ---- the regions
 
   -- no region's offset or layer wraps

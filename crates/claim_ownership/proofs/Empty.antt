@@ -23,9 +23,9 @@ or-true false = refl
 
 nothing : (c : Copy) → NoSize c → isEmpty (c .size) ≡ true
 unfolding isEmpty
-nothing c (inl e) = rw (eq-eqb (c .size .width) 0 e)
-nothing c (inr (inl e)) = rw (eq-eqb (c .size .height) 0 e, or-true (eqb (c .size .width) 0))
-nothing c (inr (inr e)) = rw (eq-eqb (depth c) 0 e, or-true (eqb (c .size .height) 0), or-true (eqb (c .size .width) 0))
+nothing c (inl e) = rw (eq-eqb (c .size .width .0) 0 e)
+nothing c (inr (inl e)) = rw (eq-eqb (c .size .height .0) 0 e, or-true (eqb (c .size .width .0) 0))
+nothing c (inr (inr e)) = rw (eq-eqb (depth c) 0 e, or-true (eqb (c .size .height .0) 0), or-true (eqb (c .size .width .0) 0))
 
 emptied : (c : Copy) (p : BufferTexturePlan) → Checks c p → NoSize c → (p .left ≡ 0) × (p .ranges ≡ Absent) × (p .«bytes_checked» ≡ total c)
 unfolding planFor planOf rangesOf

@@ -12,7 +12,7 @@ use Rattle.measures.specs.Measure.{orElse}
 use Rattle.flags.specs.Flags.{meet, isOne}
 use Rattle.formats.specs.declared.TextureAspect.{TextureAspect}
 use Rattle.formats.specs.declared.TextureAspect.the-variants.{All, StencilOnly, DepthOnly, Plane0, Plane1, Plane2}
-use Rattle.formats.specs.Table.{formatRow, aspectsOf, blockWidth, blockHeight, isFormat}
+use Rattle.formats.specs.Table.{formatRow, aspectsOf, blockWidth, blockHeight, isFormat, blockDimensions}
 use Rattle.formats.specs.Table as sheet
 use Rattle.formats.specs.Aspects.{askedOf, chosenAspects, bytesOf, blockCopySize}
 use Rattle.refusals.specs.declared.Checked.{Checked}
@@ -45,7 +45,7 @@ alike d aspect format =
     && (not (copyable d aspect format) || (eqb (blockBytes format aspect) (bytesPerBlock format aspect) && ltb 0 (bytesPerBlock format aspect))))))
 
 all-alike : (d : Direction) (aspect : TextureAspect) → everyBelow (alike d aspect) 22 ≡ true
-unfolding alike copyable goesB sheet.formats formatRow aspectsOf blockWidth blockHeight askedOf chosenAspects bytesOf blockCopySize blockBytes orElse meet isOne stop-if refuse-if first decided srcFormatChecks dstFormatChecks isDepthOnly formats blockSide isAll chosenBits bytesPerBlock
+unfolding alike copyable goesB sheet.formats formatRow aspectsOf blockDimensions askedOf chosenAspects bytesOf blockCopySize blockBytes orElse meet isOne stop-if refuse-if first decided srcFormatChecks dstFormatChecks isDepthOnly formats blockSide isAll chosenBits bytesPerBlock
 all-alike Upload All = refl
 all-alike Upload StencilOnly = refl
 all-alike Upload DepthOnly = refl

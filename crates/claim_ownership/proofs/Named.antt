@@ -79,15 +79,15 @@ module _ (c : Copy) (s : Sound c) (b : Block) (h : InBox c b) where
         level = refl;
         aspects = refl;
         layer = index-layer (is2D c) z (b .k);
-        x = starts-in (c .view .origin .x) (wide c) (block c) (b .i) (c .size .width) (s .w-whole) (s .block-pos) (h .0);
-        y = starts-in (c .view .origin .y) (high c) (block c) (b .j) (c .size .height) (s .h-whole) (s .block-pos) (h .1);
+        x = starts-in (c .view .origin .x .0) (wide c) (block c) (b .i) (c .size .width .0) (s .w-whole) (s .block-pos) (h .0);
+        y = starts-in (c .view .origin .y .0) (high c) (block c) (b .j) (c .size .height .0) (s .h-whole) (s .block-pos) (h .1);
         z = in-depth (is2D c) z (depth c) (b .k) (h .2);
       }
 
   placed : puts (block c) (block c) (bytes c) (regionAt c n) (placeOf c b) ≡ firstByte c b
   unfolding puts firstByte
   placed =
-      rw (counted (c .view .origin .y) (b .j) (block c) (s .block-pos), counted (c .view .origin .x) (b .i) (block c) (s .block-pos))
+      rw (counted (c .view .origin .y .0) (b .j) (block c) (s .block-pos), counted (c .view .origin .x .0) (b .i) (block c) (s .block-pos))
       (omega (arith, strides (is2D c) z (b .k) (image c)))
 
   pub named-by : NamedBy c (regionsOf c) b n

@@ -19,12 +19,12 @@ use Rattle.claim_ownership.proofs.Sound.{Sound}
 pos-left : (q b n : ℕ) → q * b ≡ n → 0 < n → 0 < q
 pos-left q b n e h = ⊎-elim (λ z. absurd (omega (arith, e, ap (λ (k : ℕ). k * b) z, zero-mul b))) (λ p. p) (eq-zero-or-pos q)
 
-module _ (c : Copy) (s : Sound c) (pw : 0 < c .size .width) (ph : 0 < c .size .height) (pd : 0 < depth c) where
+module _ (c : Copy) (s : Sound c) (pw : 0 < c .size .width .0) (ph : 0 < c .size .height .0) (pd : 0 < depth c) where
   wide-pos : 0 < wide c
-  wide-pos = pos-left (wide c) (block c) (c .size .width) (s .w-whole) pw
+  wide-pos = pos-left (wide c) (block c) (c .size .width .0) (s .w-whole) pw
 
   high-pos : 0 < high c
-  high-pos = pos-left (high c) (block c) (c .size .height) (s .h-whole) ph
+  high-pos = pos-left (high c) (block c) (c .size .height .0) (s .h-whole) ph
 
   image-bytes : imageBytes c ≡ (high c - 1) * row c + dense c
   unfolding imageBytes

@@ -44,10 +44,10 @@ run-is Upload false s n = touched-is s (s + n)
 run-is Download false s n = touched-is s (s + n)
 run-is Download true s n = filled-is s (s + n)
 
-module _ (c : Copy) (p : BufferTexturePlan) (k : Checks c p) (pw : 0 < c .size .width) (ph : 0 < c .size .height) (pd : 0 < depth c) where
+module _ (c : Copy) (p : BufferTexturePlan) (k : Checks c p) (pw : 0 < c .size .width .0) (ph : 0 < c .size .height .0) (pd : 0 < depth c) where
   some-size : isEmpty (c .size) ≡ false
   unfolding isEmpty
-  some-size = rw (ne-eqb (c .size .width) 0 (λ e. omega arith), ne-eqb (c .size .height) 0 (λ e. omega arith), ne-eqb (depth c) 0 (λ e. omega arith))
+  some-size = rw (ne-eqb (c .size .width .0) 0 (λ e. omega arith), ne-eqb (c .size .height .0) 0 (λ e. omega arith), ne-eqb (depth c) 0 (λ e. omega arith))
 
   shape : Dimensioned (c .texture)
   shape = known (c .texture) (k .accepted .texture-bounds) .1

@@ -4,7 +4,7 @@ use mathlib.Core.Path.{_≡_, ap, _∙_}
 use Prim.Native.Nat.{ℕ, _+_, _*_, _/_, _%_, _≤_, _<_}
 use native.Mathlib.Omega.{arith}
 use native.Mathlib.Nat.{div-add-mod'}
-use Rattle.measures.specs.Measure.{blocksOf, physicalSize}
+use Rattle.measures.specs.Measure.{blocksOf, inBlocks, physicalSize, roundUp}
 use Rattle.measures.proofs.Rounding.{block-laws}
 use Rattle.mip_levels.specs.Level.{textureDimension, mipLevelSize}
 use Rattle.formats.specs.Table.{blockWidth, blockHeight}
@@ -28,8 +28,8 @@ pub record Sound (c : Copy) : Type 0 where
   pub small : c .buffer .size ≤ maxBufferSize
   pub block-pos : 0 < block c
   pub bytes-pos : 0 < bytes c
-  pub w-whole : wide c * block c ≡ c .size .width
-  pub h-whole : high c * block c ≡ c .size .height
+  pub w-whole : wide c * block c ≡ c .size .width .0
+  pub h-whole : high c * block c ≡ c .size .height .0
   pub fit : dense c ≤ row c
   pub tall : high c ≤ rows c
   pub end : c .layout .offset + total c ≤ c .buffer .size
@@ -43,7 +43,7 @@ whole n side b pos e h =
 -- ---- what the planner's linear data is made of
 
 abbrev measures : Copy → Dense
-measures c = record { «row_bytes» = dense c; rows = high c; images = depth c }
+measures c = record { «row_bytes» = dense c; rows = record { 0 = high c }; images = depth c }
 
 total-is : (c : Copy) → totalBytes (c .layout) (measures c) ≡ total c
 unfolding total imageBytes
@@ -61,15 +61,15 @@ module _ (c : Copy) (p : BufferTexturePlan) (k : Checks c p) where
   pub figured : Figures (c .texture .format) (c .view .aspect)
   figured = figures (c .direction) (c .texture .format) (c .view .aspect) (known (c .texture) (k .accepted .texture-bounds) .0) (k .accepted .format) (k .one)
 
-  across : (blocksOf (c .size .width) (blockWidth (c .texture .format)) ≡ wide c) × (wide c * block c ≡ c .size .width)
-  across = whole (c .size .width) _ (block c) (figured .side-some) (figured .width) (k .accepted .range .width-whole)
+  across : (blocksOf (c .size .width .0) (blockWidth (c .texture .format)) ≡ wide c) × (wide c * block c ≡ c .size .width .0)
+  across = whole (c .size .width .0) _ (block c) (figured .side-some) (figured .width) (k .accepted .range .width-whole)
 
-  along : (blocksOf (c .size .height) (blockHeight (c .texture .format)) ≡ high c) × (high c * block c ≡ c .size .height)
-  along = whole (c .size .height) _ (block c) (figured .side-some) (figured .height) (k .accepted .range .height-whole)
+  along : (blocksOf (c .size .height .0) (blockHeight (c .texture .format)) ≡ high c) × (high c * block c ≡ c .size .height .0)
+  along = whole (c .size .height .0) _ (block c) (figured .side-some) (figured .height) (k .accepted .range .height-whole)
 
   measured : planner.dense c ≡ measures c
-  unfolding denseOf
-  measured = let w = across .0 in let h = along .0 in let b = figured .bytes in cc
+  unfolding denseOf inBlocks
+  measured = rw (across .0, along .0, figured .bytes)
 
   linear : LinearLaws (c .layout) (c .buffer .size) (measures c)
   linear = rw measured at (k .accepted .linear)
@@ -79,7 +79,7 @@ module _ (c : Copy) (p : BufferTexturePlan) (k : Checks c p) where
 
   -- the copied images are the level's
   pub level-deep : c .view .origin .z + depth c ≤ mipLevelSize (textureDimension (c .texture .dimension)) (c .texture .size) (c .view .«mip_level») .«depth_or_array_layers»
-  unfolding physicalExtent physicalSize logicalExtent
+  unfolding physicalExtent roundUp physicalSize logicalExtent
   level-deep = k .accepted .range .z-inside
 
   deep : c .view .origin .z + depth c ≤ maxSide3d

@@ -39,10 +39,10 @@ block c = blockSide (c .texture .format)
 
 -- width and height in blocks
 abbrev pub wide : Copy → ℕ
-wide c = c .size .width / block c
+wide c = c .size .width .0 / block c
 
 abbrev pub high : Copy → ℕ
-high c = c .size .height / block c
+high c = c .size .height .0 / block c
 
 abbrev pub dense : Copy → ℕ
 dense c = wide c * bytes c

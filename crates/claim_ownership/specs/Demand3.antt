@@ -49,8 +49,8 @@ placeOf c b =
       level = c .view .«mip_level»;
       aspects = aspects c;
       layer = layerAt c (b .k);
-      x = c .view .origin .x + b .i * block c;
-      y = c .view .origin .y + b .j * block c;
+      x = c .view .origin .x .0 + b .i * block c;
+      y = c .view .origin .y .0 + b .j * block c;
       z = depthAt c (b .k);
     }
 
@@ -58,8 +58,8 @@ placeOf c b =
 pub record Boxed (c : Copy) (p : Place) : Type 0 where
   pub level : p .level ≡ c .view .«mip_level»
   pub aspects : p .aspects ≡ aspects c
-  pub x : Within (p .x) (c .view .origin .x) (c .size .width)
-  pub y : Within (p .y) (c .view .origin .y) (c .size .height)
+  pub x : Within (p .x) (c .view .origin .x .0) (c .size .width .0)
+  pub y : Within (p .y) (c .view .origin .y .0) (c .size .height .0)
   pub image : (k : ℕ) × (k < depth c) × (p .layer ≡ layerAt c k) × (p .z ≡ depthAt c k)
 
 -- the n-th region alone names the block, and puts it at the bytes it owns
@@ -108,4 +108,4 @@ pub record Demand3 (c : Copy) (p : BufferTexturePlan) : Type 0 where
 abbrev pub EveryCopy : Type 0
 EveryCopy =
     (c : Copy) (p : BufferTexturePlan) → planned c ≡ Plan p
-    → 0 < c .size .width → 0 < c .size .height → 0 < depth c → Demand3 c p
+    → 0 < c .size .width .0 → 0 < c .size .height .0 → 0 < depth c → Demand3 c p

@@ -12,7 +12,7 @@ use Rattle.claim_ownership.specs.Copy.{planned, depth, total}
 
 -- zero width, height or depth
 abbrev pub NoSize : Copy → Type 0
-NoSize c = (c .size .width ≡ 0) ⊎ ((c .size .height ≡ 0) ⊎ (depth c ≡ 0))
+NoSize c = (c .size .width .0 ≡ 0) ⊎ ((c .size .height .0 ≡ 0) ⊎ (depth c ≡ 0))
 
 -- it has no regions or ranges; the bytes checked are module 4's total all the same
 pub record EmptyCopy (c : Copy) (p : BufferTexturePlan) : Type 0 where

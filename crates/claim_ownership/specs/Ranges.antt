@@ -33,8 +33,8 @@ halved c side = max 1 (side / 2 ^ (c .view .«mip_level»))
 -- width, height and (3D only) depth are the logical level's, and the aspect is All
 unfoldable pub covers : Copy → Bool
 covers c =
-    eqb (c .size .width) (halved c (c .texture .size .width))
-    && (eqb (c .size .height) (halved c (c .texture .size .height))
+    eqb (c .size .width .0) (halved c (c .texture .size .width .0))
+    && (eqb (c .size .height .0) (halved c (c .texture .size .height .0))
     && ((not (is3D c) || eqb (depth c) (halved c (c .texture .size .«depth_or_array_layers»)))
     && isAll (c .view .aspect)))
 

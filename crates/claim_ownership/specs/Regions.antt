@@ -22,8 +22,8 @@ pub record Names (r : BufferTextureCopy) (p : Place) : Type 0 where
   pub level : p .level ≡ r .base .«mip_level»
   pub aspects : p .aspects ≡ r .base .aspect .0
   pub layer : p .layer ≡ r .base .«array_layer»
-  pub x : Within (p .x) (r .base .origin .x) (r .size .width)
-  pub y : Within (p .y) (r .base .origin .y) (r .size .height)
+  pub x : Within (p .x) (r .base .origin .x .0) (r .size .width .0)
+  pub y : Within (p .y) (r .base .origin .y .0) (r .size .height .0)
   pub z : Within (p .z) (r .base .origin .z) (r .size .depth)
 
 -- an absent value counts as the dense one
@@ -35,9 +35,9 @@ orDense Absent dense = dense
 -- rows
 unfoldable pub puts : (blockWidth blockHeight blockBytes : ℕ) → BufferTextureCopy → Place → ℕ
 puts blockWidth blockHeight blockBytes r p =
-    let row = orDense (r .«bytes_per_row») (r .size .width / blockWidth * blockBytes) in
-    let image = orDense (r .«rows_per_image») (r .size .height / blockHeight) * row in
+    let row = orDense (r .«bytes_per_row») (r .size .width .0 / blockWidth * blockBytes) in
+    let image = orDense (r .«rows_per_image») (r .size .height .0 / blockHeight) * row in
     r .offset
     + (p .z - r .base .origin .z) * image
-    + (p .y - r .base .origin .y) / blockHeight * row
-    + (p .x - r .base .origin .x) / blockWidth * blockBytes
+    + (p .y - r .base .origin .y .0) / blockHeight * row
+    + (p .x - r .base .origin .x .0) / blockWidth * blockBytes

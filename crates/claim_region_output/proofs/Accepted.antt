@@ -66,11 +66,11 @@ aspects-few format a = by a (all-true (map (λ (a : TextureAspect). ltb (askedOf
 
 pub record Figures (view : TexelCopyTextureInfo) (size : Extent3d) : Type 0 where
   pub level : view .«mip_level» < 2 ^ 32
-  pub x : view .origin .x < 2 ^ 32
-  pub y : view .origin .y < 2 ^ 32
+  pub x : view .origin .x .0 < 2 ^ 32
+  pub y : view .origin .y .0 < 2 ^ 32
   pub z : view .origin .z < 2 ^ 32
-  pub width : size .width < 2 ^ 32
-  pub height : size .height < 2 ^ 32
+  pub width : size .width .0 < 2 ^ 32
+  pub height : size .height .0 < 2 ^ 32
   pub depth : size .«depth_or_array_layers» < 2 ^ 32
 
 layer-less : (d : TextureDimension) (z : ℕ) → (layerOf d z ≤ z) × (zOf d z ≤ z)

@@ -13,7 +13,7 @@ use Rattle.conditions.specs.Conditions.{pick}
 use Rattle.conditions.proofs.Rules.{neither}
 use Rattle.measures.specs.declared.Extent3d.{Extent3d}
 use Rattle.measures.specs.declared.OptionU64.{OptionU64}
-use Rattle.measures.specs.Measure.{isEmpty}
+use Rattle.measures.specs.Measure.{lesserOf, isEmpty}
 use Rattle.mip_levels.specs.declared.TextureDimension.{TextureDimension}
 use Rattle.mip_levels.specs.declared.TextureDimension.the-variants.{D1, D2, D3}
 use Rattle.mip_levels.specs.Level.{textureDimension}
@@ -98,8 +98,8 @@ layers-few D3 n h = omega arith
 image-some : (size : Extent3d) → isEmpty size ≡ false → 0 < size .«depth_or_array_layers»
 unfolding isEmpty
 image-some size e =
-    let tall = neither (eqb (size .width) 0) (eqb (size .height) 0 || eqb (size .«depth_or_array_layers») 0) e .1 in
-    let deep = neither (eqb (size .height) 0) (eqb (size .«depth_or_array_layers») 0) tall .1 in
+    let tall = neither (eqb (size .width .0) 0) (eqb (size .height .0) 0 || eqb (size .«depth_or_array_layers») 0) e .1 in
+    let deep = neither (eqb (size .height .0) 0) (eqb (size .«depth_or_array_layers») 0) tall .1 in
     let some : size .«depth_or_array_layers» ≡ 0 → ⊥ = eqb-false (size .«depth_or_array_layers») 0 deep in
     omega arith
 
@@ -159,9 +159,9 @@ textures-by (T.Plan p) h = h p refl
 textures-by (T.Refused e) h = tt
 
 lesser-small : (a b : CopyExtent) → Small (sides a) → Small (sides (X.lesser a b))
-unfolding X.lesser
+unfolding X.lesser lesserOf
 lesser-small a b h =
-    (omega (arith, min-le-left (a .width) (b .width), h .0), (omega (arith, min-le-left (a .height) (b .height), h .1 .0), (omega (arith, min-le-left (a .depth) (b .depth), h .1 .1 .0), tt)))
+    (omega (arith, min-le-left (a .width .0) (b .width .0), h .0), (omega (arith, min-le-left (a .height .0) (b .height .0), h .1 .0), (omega (arith, min-le-left (a .depth) (b .depth), h .1 .1 .0), tt)))
 
 pub textures-fit : (i : ℕ) (src : TextureSide) (j : ℕ) (dst : TextureSide) (size : Extent3d) → Figures (src .view) size → Figures (dst .view) size → TexturesFit (textureToTexture i src j dst size)
 unfolding Y.planFor X.planOf

@@ -9,6 +9,7 @@ use native.Mathlib.Omega.{arith}
 use native.Mathlib.Nat.{mod-lt, mod-eq-of-lt, div-le-self, suc-mul}
 use borrow.Author.Tests.{ne-eqb}
 use lib.Dec.{eqb}
+use Rattle.measures.specs.Measure.{dividedBy}
 use Rattle.conditions.specs.Conditions.{pick, stop-if}
 use Rattle.flags.specs.FormatAspects.{DEPTH, STENCIL, PLANE-0, PLANE-1}
 use Rattle.rule_copy_range.specs.declared.CopyExtent.{CopyExtent}
@@ -67,13 +68,13 @@ next-place b h = (h .0, (wrapped (b .«array_layer» + 1), h .1 .1))
 
 -- a part's base and size
 part-place : (b : TextureCopyBase) (aspects factor : ℕ) → aspects < 64 → Small (baseNumbers b) → Small (baseNumbers (X.baseAs b aspects factor))
-unfolding X.baseAs
+unfolding X.baseAs dividedBy
 part-place b aspects factor few h =
-    (h .0, (h .1 .0, (omega (arith, div-le-self (b .origin .x) factor, h .1 .1 .0), (omega (arith, div-le-self (b .origin .y) factor, h .1 .1 .1 .0), (h .1 .1 .1 .1 .0, (omega (arith, few), tt))))))
+    (h .0, (h .1 .0, (omega (arith, div-le-self (b .origin .x .0) factor, h .1 .1 .0), (omega (arith, div-le-self (b .origin .y .0) factor, h .1 .1 .1 .0), (h .1 .1 .1 .1 .0, (omega (arith, few), tt))))))
 
 part-sides : (e : CopyExtent) (factor : ℕ) → Small (sides e) → Small (sides (X.sizeBy e factor))
-unfolding X.sizeBy
-part-sides e factor h = (omega (arith, div-le-self (e .width) factor, h .0), (omega (arith, div-le-self (e .height) factor, h .1 .0), h .1 .1))
+unfolding X.sizeBy dividedBy
+part-sides e factor h = (omega (arith, div-le-self (e .width .0) factor, h .0), (omega (arith, div-le-self (e .height .0) factor, h .1 .0), h .1 .1))
 
 module _ (p : TexturePlan) (f : FitTextures p) where
   small-copy : (r : TextureCopy) → Small (baseNumbers (r .src)) → Small (baseNumbers (r .dst)) → Small (sides (r .size)) → Small (numbers (textures r))

@@ -29,7 +29,7 @@ BufferCopies =
 -- with a buffer and a texture, of no size of 0, and of one
 abbrev pub BufferTextureCopies : Type 0
 BufferTextureCopies =
-    (c : Copy) (p : BufferTexturePlan) → B.planned c ≡ U.Plan p → 0 < c .size .width → 0 < c .size .height → 0 < B.depth c
+    (c : Copy) (p : BufferTexturePlan) → B.planned c ≡ U.Plan p → 0 < c .size .width .0 → 0 < c .size .height .0 → 0 < B.depth c
     → Gives (BufferTexture p) (map bufferTexture (B.regionsOf c))
 
 abbrev pub EmptyCopies : Type 0

@@ -20,11 +20,11 @@ optional Absent = absent
 -- level, layer, x, y, z, aspect bits
 abbrev pub baseNumbers : TextureCopyBase → List Number
 baseNumbers b =
-    given (b .«mip_level») ∷ given (b .«array_layer») ∷ given (b .origin .x) ∷ given (b .origin .y) ∷ given (b .origin .z) ∷ given (b .aspect .0) ∷ []
+    given (b .«mip_level») ∷ given (b .«array_layer») ∷ given (b .origin .x .0) ∷ given (b .origin .y .0) ∷ given (b .origin .z) ∷ given (b .aspect .0) ∷ []
 
 -- w, h, d
 abbrev pub sides : CopyExtent → List Number
-sides e = given (e .width) ∷ given (e .height) ∷ given (e .depth) ∷ []
+sides e = given (e .width .0) ∷ given (e .height .0) ∷ given (e .depth) ∷ []
 
 -- between buffers two offsets, size; with a texture offset, bytes, rows, place, size; between textures two places, size
 unfoldable pub numbers : Region → List Number

@@ -10,7 +10,7 @@ use lib.ListN.{length, getD}
 use Rattle.conditions.specs.Conditions.{pick}
 use Rattle.measures.specs.declared.Extent3d.{Extent3d}
 use Rattle.measures.specs.Measure as M
-use Rattle.measures.specs.Measure.{physicalSize}
+use Rattle.measures.specs.Measure.{physicalSize, roundUp}
 use Rattle.mip_levels.specs.declared.TextureDimension.{TextureDimension}
 use Rattle.mip_levels.specs.declared.TextureDimension.the-variants.{D1, D2, D3}
 use Rattle.records.specs.Limits.{maxSide3d}
@@ -72,7 +72,7 @@ low v w z d h = let a = at-most v z in let b = few w d in omega arith
     few D3 d = omega arith
 
 deep : (s : TextureSide) (size : Extent3d) → textureInBounds (s .texture) ≡ true → RangeLaws (s .view) (s .texture) size → s .view .origin .z + size .«depth_or_array_layers» ≤ maxSide3d
-unfolding physicalExtent physicalSize
+unfolding physicalExtent roundUp physicalSize
 deep s size b r =
     let few = texture-laws (s .texture) b .level-sized (s .view .«mip_level») .depth-few in
     omega (arith, r .z-inside)
@@ -118,11 +118,11 @@ module _ (i j : ℕ) (c : Copy) (k : Accepted i j c) where
       rw (same-dimension s, same-layer (dimension s) (s .view .origin .z), same-z (dimension s) (s .view .origin .z), same-bits s b, ← l)
 
   begins : Behind c v 0 (planFor c)
-  unfolding T.planFor N.planOf N.lesser copyExtent
+  unfolding T.planFor N.planOf N.lesser M.lesserOf copyExtent
   begins =
       let z = started v in
-      let w : min (c .size .width) (c .size .width) ≡ c .size .width = min-eq-left (le-refl _) in
-      let h : min (c .size .height) (c .size .height) ≡ c .size .height = min-eq-left (le-refl _) in
+      let w : min (c .size .width .0) (c .size .width .0) ≡ c .size .width .0 = min-eq-left (le-refl _) in
+      let h : min (c .size .height .0) (c .size .height .0) ≡ c .size .height .0 = min-eq-left (le-refl _) in
       record {
         parts = refl;
         size = rw (w, h, same-dimension (c .src), same-dimension (c .dst), same-depth (dimension (c .src)) (depth c), same-depth (dimension (c .dst)) (depth c));

@@ -12,7 +12,7 @@ use Rattle.conditions.proofs.Rules.{both-true, all-true}
 use Rattle.measures.specs.declared.Extent3d.{Extent3d}
 use Rattle.mip_levels.specs.declared.TextureDimension.{TextureDimension}
 use Rattle.mip_levels.specs.declared.TextureDimension.the-variants.{D1, D2, D3}
-use Rattle.mip_levels.specs.Level.{textureDimension, sideAt, mipLevelSize}
+use Rattle.mip_levels.specs.Level.{textureDimension, sideAt, mipLevelSize, texelsAt}
 use Rattle.mip_levels.proofs.Halving.{level-laws}
 use Rattle.formats.specs.declared.TextureAspect.{TextureAspect}
 use Rattle.formats.specs.declared.TextureAspect.the-variants.{All, StencilOnly, DepthOnly, Plane0, Plane1, Plane2}
@@ -53,9 +53,9 @@ stays level =
     omega (arith, same-side 1 level)
 
 -- as a 1D texture's height does
-flat : (v : TextureDimension) (e : Extent3d) → sizeInBounds v e ≡ true → v ≡ D1 → e .height ≡ 1
+flat : (v : TextureDimension) (e : Extent3d) → sizeInBounds v e ≡ true → v ≡ D1 → e .height .0 ≡ 1
 unfolding sizeInBounds
-flat v e h d = eqb-true _ _ (all-true (within 1 (e .width) maxSide ∷ eqb (e .height) 1 ∷ eqb (e .«depth_or_array_layers») 1 ∷ []) (rw d at h) .1 .0)
+flat v e h d = eqb-true _ _ (all-true (within 1 (e .width .0) maxSide ∷ eqb (e .height .0) 1 ∷ eqb (e .«depth_or_array_layers») 1 ∷ []) (rw d at h) .1 .0)
 
 bounded : (t : Texture) → textureInBounds t ≡ true → sizeInBounds (textureDimension (t .dimension)) (t .size) ≡ true
 unfolding textureInBounds fieldsInBounds
@@ -72,19 +72,19 @@ neither true true d = refl
 
 module _ (size e : Extent3d) (level : ℕ) where
   abbrev w : Bool
-  w = eqb (size .width) (halved (e .width) level)
+  w = eqb (size .width .0) (halved (e .width .0) level)
 
   abbrev h : Bool
-  h = eqb (size .height) (halved (e .height) level)
+  h = eqb (size .height .0) (halved (e .height .0) level)
 
   abbrev d : Bool
   d = eqb (size .«depth_or_array_layers») (halved (e .«depth_or_array_layers») level)
 
-  differs : (v : TextureDimension) → (v ≡ D1 → e .height ≡ 1) → I.sizeDiffers v size (mipLevelSize v e level) ≡ not (coversLevel v size e level)
-  unfolding I.sizeDiffers mipLevelSize
-  differs D1 low = rw (low refl, stays level, same-side (e .width) level) (neither w (eqb (size .height) 1) true)
-  differs D2 low = rw (same-side (e .width) level, same-side (e .height) level) (neither w h true)
-  differs D3 low = rw (same-side (e .width) level, same-side (e .height) level, same-side (e .«depth_or_array_layers») level) (neither w h d)
+  differs : (v : TextureDimension) → (v ≡ D1 → e .height .0 ≡ 1) → I.sizeDiffers v size (mipLevelSize v e level) ≡ not (coversLevel v size e level)
+  unfolding I.sizeDiffers texelsAt mipLevelSize
+  differs D1 low = rw (low refl, stays level, same-side (e .width .0) level) (neither w (eqb (size .height .0) 1) true)
+  differs D2 low = rw (same-side (e .width .0) level, same-side (e .height .0) level) (neither w h true)
+  differs D3 low = rw (same-side (e .width .0) level, same-side (e .height .0) level, same-side (e .«depth_or_array_layers») level) (neither w h d)
 
 same-all : (a : TextureAspect) → I.isAll a ≡ isAll a
 unfolding I.isAll

@@ -9,6 +9,7 @@ use native.Mathlib.Nat.{div-one, mod-one, mod-eq-of-lt}
 use borrow.Author.Tests.{eq-eqb, ne-eqb}
 use lib.Dec.{eqb}
 use lib.ListN.{length, getD}
+use Rattle.measures.specs.Measure.{dividedBy}
 use Rattle.conditions.specs.Conditions.{pick}
 use Rattle.rule_selectors.specs.declared.TextureCopyBase.{TextureCopyBase}
 use Rattle.rule_selectors.specs.Selector.{nextLayer}
@@ -46,11 +47,11 @@ next-layer s k h =
     rw q
 
 divided : (s : TextureSide) (k b f : ℕ) → A.baseAs (baseAt s k) b f ≡ sideOf s k b f
-unfolding A.baseAs
+unfolding A.baseAs dividedBy
 divided s k b f = refl
 
 undivided : (s : TextureSide) (k : ℕ) → baseAt s k ≡ sideOf s k (bits s) 1
-undivided s k = rw (div-one (s .view .origin .x), div-one (s .view .origin .y))
+undivided s k = rw (div-one (s .view .origin .x .0), div-one (s .view .origin .y .0))
 
 -- one part of a layer, or two
 abbrev pub num : CopyParts → ℕ
@@ -81,12 +82,12 @@ module _ (c : Copy) where
   -- ---- its region
 
   region-as : {v : CopyParts} {k : ℕ} {p : TexturePlan} → Behind v k p → (b f : ℕ) → A.regionAs p b f ≡ regionOf c (k / num v) (part b b f)
-  unfolding A.regionAs A.sizeBy A.baseAs
+  unfolding A.regionAs A.sizeBy A.baseAs dividedBy
   region-as h b f = rw (h .src, h .dst, h .size)
 
   whole-region : {k : ℕ} {p : TexturePlan} → Behind Whole k p → A.regionOf Whole p ≡ regionOf c (k / 1) (part (bits (c .src)) (bits (c .dst)) 1)
   unfolding A.regionOf
-  whole-region h = rw (h .src, h .dst, h .size, div-one (c .size .width), div-one (c .size .height), div-one (c .src .view .origin .x), div-one (c .src .view .origin .y), div-one (c .dst .view .origin .x), div-one (c .dst .view .origin .y))
+  whole-region h = rw (h .src, h .dst, h .size, div-one (c .size .width .0), div-one (c .size .height .0), div-one (c .src .view .origin .x .0), div-one (c .src .view .origin .y .0), div-one (c .dst .view .origin .x .0), div-one (c .dst .view .origin .y .0))
 
   two-regions : {v : CopyParts} {k : ℕ} {p : TexturePlan} → Behind v k p → num v ≡ 2 → (b b′ f : ℕ)
       → pick (eqb (p .part) 0) (A.regionAs p b 1) (A.regionAs p b′ f) ≡ regionOf c (k / num v) (getD (part b b 1 ∷ part b′ b′ f ∷ []) (k % num v) place)

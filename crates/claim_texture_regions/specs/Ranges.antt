@@ -40,8 +40,8 @@ halved side level = max 1 (side / 2 ^ level)
 -- width, height and (3D only) depth are the logical level's
 abbrev pub coversLevel : TextureDimension → Extent3d → Extent3d → ℕ → Bool
 coversLevel v size texture level =
-    eqb (size .width) (halved (texture .width) level)
-    && (eqb (size .height) (halved (texture .height) level)
+    eqb (size .width .0) (halved (texture .width .0) level)
+    && (eqb (size .height .0) (halved (texture .height .0) level)
     && (not (is3D v) || eqb (size .«depth_or_array_layers») (halved (texture .«depth_or_array_layers») level)))
 
 -- and the aspect is All

@@ -137,8 +137,8 @@ sideOf s layer bits factor =
       «array_layer» = layerOf (dimension s) (s .view .origin .z) + layer;
       origin =
           record {
-            x = s .view .origin .x / factor;
-            y = s .view .origin .y / factor;
+            x = record { 0 = s .view .origin .x .0 / factor };
+            y = record { 0 = s .view .origin .y .0 / factor };
             z = zOf (dimension s) (s .view .origin .z);
           };
       aspect = record { 0 = bits };
@@ -148,8 +148,8 @@ sideOf s layer bits factor =
 abbrev pub sizeOf : Copy → ℕ → CopyExtent
 sizeOf c factor =
     record {
-      width = c .size .width / factor;
-      height = c .size .height / factor;
+      width = record { 0 = c .size .width .0 / factor };
+      height = record { 0 = c .size .height .0 / factor };
       depth = min (depthOf (dimension (c .src)) (depth c)) (depthOf (dimension (c .dst)) (depth c));
     }
 
@@ -169,7 +169,7 @@ regionAt c n = regionOf c (n / partCount c) (getD (parts c) (n % partCount c) (p
 
 -- zero width, height or depth
 abbrev pub isEmpty : Extent3d → Bool
-isEmpty size = eqb (size .width) 0 || (eqb (size .height) 0 || eqb (size .«depth_or_array_layers») 0)
+isEmpty size = eqb (size .width .0) 0 || (eqb (size .height .0) 0 || eqb (size .«depth_or_array_layers») 0)
 
 -- a region for each part of each source layer; none where the copy is empty
 abbrev pub regionCount : Copy → ℕ

@@ -52,7 +52,7 @@ first-level :
     (reading : Reading) (format dimension z : ℕ) (size copied : Extent3d) (aspect : TextureAspect) → formatOf format .blockWidth ≡ 1 → formatOf format .blockHeight ≡ 1
     → let t = texture format dimension size in
     let level = physicalSubresourceSize t 0 in
-    (CopiedWhole t → IsWhole reading level copied) → copied .width ≤ level .width → copied .height ≤ level .height → z + copied .«depth_or_array_layers» ≤ level .«depth_or_array_layers»
+    (CopiedWhole t → IsWhole reading level copied) → copied .width .0 ≤ level .width .0 → copied .height .0 ≤ level .height .0 → z + copied .«depth_or_array_layers» ≤ level .«depth_or_array_layers»
     → TexelCopyTexture reading t (viewAt z aspect) copied
 first-level reading format dimension z size copied aspect w h whole x y deep =
     record {
@@ -97,11 +97,11 @@ texel-holds reading way d bytes format size z aspect copied v a l =
     }
 
 -- one row of one image needs no strides
-one-row : (way : Direction) (bytes format : ℕ) (size : Extent3d) (aspect : TextureAspect) (d : Device) (z : ℕ) (copied : Extent3d) → copied .height ≡ 1 → copied .«depth_or_array_layers» ≤ 1 → formatOf format .blockHeight ≡ 1
-    → 0 + requiredBytesInCopy (texel way d bytes format size z aspect copied .layout) (copied .width / formatOf format .blockWidth) (copied .height / formatOf format .blockHeight) (blockBytes format aspect) (copied .«depth_or_array_layers») ≤ bytes
+one-row : (way : Direction) (bytes format : ℕ) (size : Extent3d) (aspect : TextureAspect) (d : Device) (z : ℕ) (copied : Extent3d) → copied .height .0 ≡ 1 → copied .«depth_or_array_layers» ≤ 1 → formatOf format .blockHeight ≡ 1
+    → 0 + requiredBytesInCopy (texel way d bytes format size z aspect copied .layout) (copied .width .0 / formatOf format .blockWidth) (copied .height .0 / formatOf format .blockHeight) (blockBytes format aspect) (copied .«depth_or_array_layers») ≤ bytes
     → LinearBox (texture format 2 size) aspect (texel way d bytes format size z aspect copied .layout) copied bytes
 one-row way bytes format size aspect d z copied h k e fits =
-    let one : copied .height / formatOf format .blockHeight ≡ 1 = rw (h, e) in
+    let one : copied .height .0 / formatOf format .blockHeight ≡ 1 = rw (h, e) in
     record { rows-given = λ m. absurd (omega (arith, one)); images-given = λ m. absurd (omega arith); row-fits = tt; image-fits = tt; inside = fits }
 
 allowed : (way : Direction) → (validOne (textureIsRead way) (taken 0 All) ≡ true) × (validOne (textureIsRead way) (taken 16 All) ≡ true) × (validOne (textureIsRead way) (taken 0 DepthOnly) ≡ true) × (validOne (textureIsRead way) (taken 15 All) ≡ true)
@@ -218,7 +218,7 @@ record Bounded : Type 0 where
   many : bufferInBounds (buffer 4096 12) ≡ true
 
 bounded : Bounded
-unfolding records.textureInBounds records.fieldsInBounds records.samplesInBounds records.formatSuits records.bufferInBounds records.within records.sizeInBounds records.levelsInBounds records.mipSide records.mayBeMultisampled records.dimensionSuits records.sidesWhole records.planesSuit levels.textureDimension levels.maxMipLevels levels.halvings sheet.isFormat sheet.formats sheet.formatRow sheet.blockWidth sheet.blockHeight sheet.isMultiPlanar multiple stop-if
+unfolding records.textureInBounds records.fieldsInBounds records.samplesInBounds records.formatSuits records.bufferInBounds records.within records.sizeInBounds records.levelsInBounds records.mipSide records.mayBeMultisampled records.dimensionSuits records.sidesWhole records.planesSuit levels.textureDimension levels.maxMipLevels levels.halvings sheet.isFormat sheet.formats sheet.formatRow sheet.blockDimensions sheet.isMultiPlanar multiple stop-if
 bounded = record { stencil = refl; depth = refl; volume = refl; larger = refl; line = refl; one = refl; none = refl; many = refl }
 
 -- ---- between textures
@@ -228,7 +228,7 @@ rules-hold :
     (reading : Reading) (other format dimension : ℕ) (size copied : Extent3d) → formatOf format .blockWidth ≡ 1 → formatOf format .blockHeight ≡ 1 → copyCompatible format format ≡ true
     → named (formatOf format) All ≡ formatOf format .parts
     → let level = physicalSubresourceSize (texture format dimension size) 0 in
-    (CopiedWhole (texture format dimension size) → IsWhole reading level copied) → copied .width ≤ level .width → copied .height ≤ level .height → 1 + copied .«depth_or_array_layers» ≤ level .«depth_or_array_layers»
+    (CopiedWhole (texture format dimension size) → IsWhole reading level copied) → copied .width .0 ≤ level .width .0 → copied .height .0 ≤ level .height .0 → 1 + copied .«depth_or_array_layers» ≤ level .«depth_or_array_layers»
     → Rules 0 other (side (texture format dimension size) 0) (side (texture format dimension size) 1) copied reading
 rules-hold reading other format dimension size copied w h compatible all whole x y deep =
     let valid : (z : ℕ) → z ≤ 1 → TexelCopyTexture reading (texture format dimension size) (viewAt z All) copied = λ z l. first-level reading format dimension z size copied All w h whole x y (omega arith) in

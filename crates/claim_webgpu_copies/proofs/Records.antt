@@ -18,7 +18,7 @@ use Rattle.mip_levels.specs.declared.TextureDimension.the-variants.{D1, D2, D3}
 use Rattle.mip_levels.specs.Level as levels
 use Rattle.mip_levels.specs.Level.{maxMipLevels}
 use Rattle.mip_levels.proofs.Halving.{level-laws}
-use Rattle.formats.specs.Table.{formats, formatRow, isFormat, blockWidth, blockHeight, isMultiPlanar}
+use Rattle.formats.specs.Table.{formats, formatRow, isFormat, blockWidth, blockHeight, isMultiPlanar, blockDimensions}
 use Rattle.records.specs.declared.Buffer.{Buffer}
 use Rattle.records.specs.declared.Texture.{Texture}
 use Rattle.records.specs.Bounds as B
@@ -67,15 +67,15 @@ buffer-by b h = rw (le-leb (b .size) 268435456 (h .size)) (le-leb (b .usage .0) 
 
 size-of : (d : TextureDimension) (e : Extent3d) → sizeInBounds d e ≡ true → SizeInBounds d e
 unfolding sizeInBounds
-size-of D1 e h = let p = all-true (within 1 (e .width) 8192 ∷ eqb (e .height) 1 ∷ eqb (e .«depth_or_array_layers») 1 ∷ []) h in (between-of _ _ _ (p .0), eqb-true _ _ (p .1 .0), eqb-true _ _ (p .1 .1 .0))
-size-of D2 e h = let p = all-true (within 1 (e .width) 8192 ∷ within 1 (e .height) 8192 ∷ within 1 (e .«depth_or_array_layers») 256 ∷ []) h in (between-of _ _ _ (p .0), between-of _ _ _ (p .1 .0), between-of _ _ _ (p .1 .1 .0))
-size-of D3 e h = let p = all-true (within 1 (e .width) 2048 ∷ within 1 (e .height) 2048 ∷ within 1 (e .«depth_or_array_layers») 2048 ∷ []) h in (between-of _ _ _ (p .0), between-of _ _ _ (p .1 .0), between-of _ _ _ (p .1 .1 .0))
+size-of D1 e h = let p = all-true (within 1 (e .width .0) 8192 ∷ eqb (e .height .0) 1 ∷ eqb (e .«depth_or_array_layers») 1 ∷ []) h in (between-of _ _ _ (p .0), eqb-true _ _ (p .1 .0), eqb-true _ _ (p .1 .1 .0))
+size-of D2 e h = let p = all-true (within 1 (e .width .0) 8192 ∷ within 1 (e .height .0) 8192 ∷ within 1 (e .«depth_or_array_layers») 256 ∷ []) h in (between-of _ _ _ (p .0), between-of _ _ _ (p .1 .0), between-of _ _ _ (p .1 .1 .0))
+size-of D3 e h = let p = all-true (within 1 (e .width .0) 2048 ∷ within 1 (e .height .0) 2048 ∷ within 1 (e .«depth_or_array_layers») 2048 ∷ []) h in (between-of _ _ _ (p .0), between-of _ _ _ (p .1 .0), between-of _ _ _ (p .1 .1 .0))
 
 size-by : (d : TextureDimension) (e : Extent3d) → SizeInBounds d e → sizeInBounds d e ≡ true
 unfolding sizeInBounds
-size-by D1 e h = rw (between-by 1 (e .width) 8192 (h .0), eq-eqb (e .height) 1 (h .1)) (eq-eqb (e .«depth_or_array_layers») 1 (h .2))
-size-by D2 e h = rw (between-by 1 (e .width) 8192 (h .0), between-by 1 (e .height) 8192 (h .1)) (between-by 1 (e .«depth_or_array_layers») 256 (h .2))
-size-by D3 e h = rw (between-by 1 (e .width) 2048 (h .0), between-by 1 (e .height) 2048 (h .1)) (between-by 1 (e .«depth_or_array_layers») 2048 (h .2))
+size-by D1 e h = rw (between-by 1 (e .width .0) 8192 (h .0), eq-eqb (e .height .0) 1 (h .1)) (eq-eqb (e .«depth_or_array_layers») 1 (h .2))
+size-by D2 e h = rw (between-by 1 (e .width .0) 8192 (h .0), between-by 1 (e .height .0) 8192 (h .1)) (between-by 1 (e .«depth_or_array_layers») 256 (h .2))
+size-by D3 e h = rw (between-by 1 (e .width .0) 2048 (h .0), between-by 1 (e .height .0) 2048 (h .1)) (between-by 1 (e .«depth_or_array_layers») 2048 (h .2))
 
 some-side : (d : TextureDimension) (e : Extent3d) → SizeInBounds d e → 0 < mipSide d e
 some-side D1 e h = omega arith
@@ -102,7 +102,7 @@ blocks : ℕ → Bool
 blocks f = eqb (blockWidth f) (cond (within 11 f 14) 4 1) && eqb (blockHeight f) (cond (within 11 f 14) 4 1)
 
 all-blocks : everyBelow blocks 22 ≡ true
-unfolding blocks within blockWidth blockHeight formatRow formats
+unfolding blocks within blockDimensions formatRow formats
 all-blocks = refl
 
 block-sides : (f : ℕ) → f ≤ 21 → (blockWidth f ≡ cond (within 11 f 14) 4 1) × (blockHeight f ≡ cond (within 11 f 14) 4 1)
@@ -113,7 +113,7 @@ by-one : (n : ℕ) → n % 1 ≡ 0
 by-one n = omega arith
 
 module _ (t : Texture) (known : t .format ≤ 21) where
-  whole-of : sidesWhole (t .format) (t .size) ≡ true → Between 11 (t .format) 14 → (t .size .width % 4 ≡ 0) × (t .size .height % 4 ≡ 0)
+  whole-of : sidesWhole (t .format) (t .size) ≡ true → Between 11 (t .format) 14 → (t .size .width .0 % 4 ≡ 0) × (t .size .height .0 % 4 ≡ 0)
   unfolding sidesWhole
   whole-of e b =
       let p = both-true _ _ e in
@@ -123,18 +123,18 @@ module _ (t : Texture) (known : t .format ≤ 21) where
       let h : blockHeight (t .format) ≡ 4 = s .1 ∙ rw four in
       (rw (← w) (rest-of _ _ (p .0)), rw (← h) (rest-of _ _ (p .1)))
 
-  whole-by : (Between 11 (t .format) 14 → (t .size .width % 4 ≡ 0) × (t .size .height % 4 ≡ 0)) → sidesWhole (t .format) (t .size) ≡ true
+  whole-by : (Between 11 (t .format) 14 → (t .size .width .0 % 4 ≡ 0) × (t .size .height .0 % 4 ≡ 0)) → sidesWhole (t .format) (t .size) ≡ true
   unfolding sidesWhole
   whole-by h = go (within 11 (t .format) 14) refl
     where
-      go : (b : Bool) → within 11 (t .format) 14 ≡ b → (multiple (t .size .width) (blockWidth (t .format)) && multiple (t .size .height) (blockHeight (t .format))) ≡ true
+      go : (b : Bool) → within 11 (t .format) 14 ≡ b → (multiple (t .size .width .0) (blockWidth (t .format)) && multiple (t .size .height .0) (blockHeight (t .format))) ≡ true
       go true e =
           let s = block-sides (t .format) known in
           let r = h (between-of 11 (t .format) 14 e) in
-          rw (s .0, s .1, e, no-rest (t .size .width) 4 (r .0)) (no-rest (t .size .height) 4 (r .1))
+          rw (s .0, s .1, e, no-rest (t .size .width .0) 4 (r .0)) (no-rest (t .size .height .0) 4 (r .1))
       go false e =
           let s = block-sides (t .format) known in
-          rw (s .0, s .1, e, no-rest (t .size .width) 1 (by-one _)) (no-rest (t .size .height) 1 (by-one _))
+          rw (s .0, s .1, e, no-rest (t .size .width .0) 1 (by-one _)) (no-rest (t .size .height .0) 1 (by-one _))
 
 module _ (t : Texture) where
   flat-of : dimensionSuits (t .format) (t .dimension) ≡ true → 11 ≤ t .format → t .dimension ≡ 2
@@ -149,18 +149,18 @@ module _ (t : Texture) where
       go true e = refl
       go false e = eq-eqb (t .dimension) 2 (h (omega (arith, leb-false (t .format) 10 e)))
 
-  planes-of : planesSuit t ≡ true → t .format ≡ 21 → (t .size .width % 2 ≡ 0) × (t .size .height % 2 ≡ 0) × (t .«mip_level_count» ≡ 1)
+  planes-of : planesSuit t ≡ true → t .format ≡ 21 → (t .size .width .0 % 2 ≡ 0) × (t .size .height .0 % 2 ≡ 0) × (t .«mip_level_count» ≡ 1)
   unfolding planesSuit isMultiPlanar
   planes-of e f =
-      let p = all-true (multiple (t .size .width) 2 ∷ multiple (t .size .height) 2 ∷ eqb (t .«mip_level_count») 1 ∷ []) (rw (eq-eqb (t .format) 21 f) at e) in
+      let p = all-true (multiple (t .size .width .0) 2 ∷ multiple (t .size .height .0) 2 ∷ eqb (t .«mip_level_count») 1 ∷ []) (rw (eq-eqb (t .format) 21 f) at e) in
       (rest-of _ _ (p .0), rest-of _ _ (p .1 .0), eqb-true _ _ (p .1 .1 .0))
 
-  planes-by : (t .format ≡ 21 → (t .size .width % 2 ≡ 0) × (t .size .height % 2 ≡ 0) × (t .«mip_level_count» ≡ 1)) → planesSuit t ≡ true
+  planes-by : (t .format ≡ 21 → (t .size .width .0 % 2 ≡ 0) × (t .size .height .0 % 2 ≡ 0) × (t .«mip_level_count» ≡ 1)) → planesSuit t ≡ true
   unfolding planesSuit isMultiPlanar
   planes-by h = go (eqb (t .format) 21) refl
     where
-      go : (b : Bool) → eqb (t .format) 21 ≡ b → (not b || every (multiple (t .size .width) 2 ∷ multiple (t .size .height) 2 ∷ eqb (t .«mip_level_count») 1 ∷ [])) ≡ true
-      go true e = let r = h (eqb-true _ _ e) in rw (no-rest (t .size .width) 2 (r .0), no-rest (t .size .height) 2 (r .1)) (eq-eqb (t .«mip_level_count») 1 (r .2))
+      go : (b : Bool) → eqb (t .format) 21 ≡ b → (not b || every (multiple (t .size .width .0) 2 ∷ multiple (t .size .height .0) 2 ∷ eqb (t .«mip_level_count») 1 ∷ [])) ≡ true
+      go true e = let r = h (eqb-true _ _ e) in rw (no-rest (t .size .width .0) 2 (r .0), no-rest (t .size .height .0) 2 (r .1)) (eq-eqb (t .«mip_level_count») 1 (r .2))
       go false e = refl
 
   -- ---- samples

@@ -8,7 +8,7 @@ use native.Mathlib.Nat.{mul-le-mul, div-le-self}
 use Rattle.measures.specs.declared.Extent3d.{Extent3d}
 use Rattle.measures.specs.declared.OptionU32.{OptionU32}
 use Rattle.measures.specs.declared.OptionU32.the-variants.{Given, Absent}
-use Rattle.measures.specs.Measure.{physicalSize, orElse}
+use Rattle.measures.specs.Measure.{physicalSize, orElse, roundUp}
 use Rattle.measures.proofs.Rounding.{block-laws}
 use Rattle.formats.specs.declared.TextureAspect.{TextureAspect}
 use Rattle.formats.specs.Table.{blockWidth, blockHeight}
@@ -41,13 +41,13 @@ abbrev maxRounded : ℕ
 maxRounded = maxSide + maxBlockSide
 
 -- a level's sides, rounded up to blocks
-rounded : (t : Texture) → textureInBounds t ≡ true → (level : ℕ) → (physicalExtent t level .width ≤ maxRounded) × (physicalExtent t level .height ≤ maxRounded)
-unfolding physicalExtent physicalSize
+rounded : (t : Texture) → textureInBounds t ≡ true → (level : ℕ) → (physicalExtent t level .width .0 ≤ maxRounded) × (physicalExtent t level .height .0 ≤ maxRounded)
+unfolding physicalExtent roundUp physicalSize
 rounded t b level =
     let s = texture-laws t b .level-sized level in
     let f = every-format (t .format) in
-    let w = block-laws (blockWidth (t .format)) (f .width-some) .tight (logicalExtent t level .width) in
-    let h = block-laws (blockHeight (t .format)) (f .height-some) .tight (logicalExtent t level .height) in
+    let w = block-laws (blockWidth (t .format)) (f .width-some) .tight (logicalExtent t level .width .0) in
+    let h = block-laws (blockHeight (t .format)) (f .height-some) .tight (logicalExtent t level .height .0) in
     (omega (arith, s .width-few, f .width-few), omega (arith, s .height-few, f .height-few))
 
 pub figures-of :
@@ -59,13 +59,13 @@ figures-of reading c r i in-buffer in-texture v =
     let f = formatOf format in
     let few = rounded (c .texture) in-texture level in
     let same = physical-extents (c .texture) level (r .known) in
-    let wide = ap (λ (e : Extent3d). e .width) same in
-    let high = ap (λ (e : Extent3d). e .height) same in
-    let columns = div-le-self (c .size .width) (f .blockWidth) in
-    let rows = div-le-self (c .size .height) (f .blockHeight) in
-    let narrow : c .size .width / f .blockWidth ≤ maxRounded = omega (arith, v .range .x, few .0, wide, columns) in
+    let wide = ap (λ (e : Extent3d). e .width .0) same in
+    let high = ap (λ (e : Extent3d). e .height .0) same in
+    let columns = div-le-self (c .size .width .0) (f .blockWidth) in
+    let rows = div-le-self (c .size .height .0) (f .blockHeight) in
+    let narrow : c .size .width .0 / f .blockWidth ≤ maxRounded = omega (arith, v .range .x, few .0, wide, columns) in
     let bytes : blockBytes format (c .view .aspect) ≤ maxBlockBytes = rw (← bytes-are format (c .view .aspect) i) (few-bytes format (c .view .aspect)) in
-    let row : c .size .width / f .blockWidth * blockBytes format (c .view .aspect) ≤ maxRounded * maxBlockBytes = mul-le-mul narrow bytes in
+    let row : c .size .width .0 / f .blockWidth * blockBytes format (c .view .aspect) ≤ maxRounded * maxBlockBytes = mul-le-mul narrow bytes in
     record {
       bytes-field = r .bytes-field;
       rows-field = r .rows-field;

@@ -21,9 +21,9 @@ pub record BufferInBounds (b : Buffer) : Type 0 where
   pub usage : b .usage .0 ≤ 1023
 
 abbrev pub SizeInBounds : TextureDimension → Extent3d → Type 0
-SizeInBounds D1 e = Between 1 (e .width) 8192 × (e .height ≡ 1) × (e .«depth_or_array_layers» ≡ 1)
-SizeInBounds D2 e = Between 1 (e .width) 8192 × Between 1 (e .height) 8192 × Between 1 (e .«depth_or_array_layers») 256
-SizeInBounds D3 e = Between 1 (e .width) 2048 × Between 1 (e .height) 2048 × Between 1 (e .«depth_or_array_layers») 2048
+SizeInBounds D1 e = Between 1 (e .width .0) 8192 × (e .height .0 ≡ 1) × (e .«depth_or_array_layers» ≡ 1)
+SizeInBounds D2 e = Between 1 (e .width .0) 8192 × Between 1 (e .height .0) 8192 × Between 1 (e .«depth_or_array_layers») 256
+SizeInBounds D3 e = Between 1 (e .width .0) 2048 × Between 1 (e .height .0) 2048 × Between 1 (e .«depth_or_array_layers») 2048
 
 pub record FourSamples (t : Texture) : Type 0 where
   pub four : t .«sample_count» ≡ 4
@@ -42,8 +42,8 @@ pub record TextureInBounds (t : Texture) : Type 0 where
   pub usage : t .usage .0 ≤ 31
   pub samples : (t .«sample_count» ≡ 1) ⊎ FourSamples t
   pub flat : 11 ≤ t .format → t .dimension ≡ 2
-  pub blocks : Between 11 (t .format) 14 → (t .size .width % 4 ≡ 0) × (t .size .height % 4 ≡ 0)
-  pub planes : t .format ≡ 21 → (t .size .width % 2 ≡ 0) × (t .size .height % 2 ≡ 0) × (t .«mip_level_count» ≡ 1)
+  pub blocks : Between 11 (t .format) 14 → (t .size .width .0 % 4 ≡ 0) × (t .size .height .0 % 4 ≡ 0)
+  pub planes : t .format ≡ 21 → (t .size .width .0 % 2 ≡ 0) × (t .size .height .0 % 2 ≡ 0) × (t .«mip_level_count» ≡ 1)
 
 pub record RecordBounds : Type 0 where
   pub buffers : (b : Buffer) → (bufferInBounds b ≡ true) ↔ BufferInBounds b

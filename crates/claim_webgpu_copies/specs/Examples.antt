@@ -27,7 +27,7 @@ abbrev pub buffer : ℕ → ℕ → Buffer
 buffer size usage = record { size = size; usage = record { 0 = usage } }
 
 abbrev pub extent : ℕ → ℕ → ℕ → Extent3d
-extent width height depth = record { width = width; height = height; «depth_or_array_layers» = depth }
+extent width height depth = record { width = record { 0 = width }; height = record { 0 = height }; «depth_or_array_layers» = depth }
 
 -- of one level and one sample, to be copied from and to
 abbrev pub texture : ℕ → ℕ → Extent3d → Texture
@@ -35,7 +35,7 @@ texture format dimension size = record { format = format; dimension = dimension;
 
 -- at x 0, y 0 of the first level
 abbrev pub viewAt : ℕ → TextureAspect → TexelCopyTextureInfo
-viewAt z aspect = record { «mip_level» = 0; origin = record { x = 0; y = 0; z = z }; aspect = aspect }
+viewAt z aspect = record { «mip_level» = 0; origin = record { x = record { 0 = 0 }; y = record { 0 = 0 }; z = z }; aspect = aspect }
 
 -- ---- between buffers: 4 bytes from the start of one to the start of another
 

@@ -10,7 +10,7 @@ use lib.Dec.{ltb}
 use borrow.Author.Tests.{ne-eqb, lt-ltb}
 use Rattle.measures.specs.declared.OptionU32.{OptionU32}
 use Rattle.measures.specs.declared.OptionU32.the-variants.{Given, Absent}
-use Rattle.measures.specs.Measure.{blocksOf}
+use Rattle.measures.specs.Measure.{blocksOf, inBlocks}
 use Rattle.measures.proofs.Rounding.{block-laws}
 use Rattle.mip_levels.specs.declared.TextureDimension.{TextureDimension}
 use Rattle.mip_levels.specs.declared.TextureDimension.the-variants.{D1, D2, D3}
@@ -105,9 +105,9 @@ module _ (c : Copy) (p : BufferTexturePlan) (k : Checks c p) (known : Known (c .
     where
       go : (t : Bool) → isEmpty (c .size) ≡ t → (0 < d) × (m < R.layersOf v d)
       go true e = absurd (omega (arith, h, none-left e))
-      go false e = (depth-some (c .size .width) (c .size .height) d e, rw (left-is e) at h)
+      go false e = (depth-some (c .size .width .0) (c .size .height .0) d e, rw (left-is e) at h)
 
-  left-of : (m : ℕ) → 0 < c .size .width → 0 < c .size .height → 0 < d → m < R.layersOf v d → m < plan .left
+  left-of : (m : ℕ) → 0 < c .size .width .0 → 0 < c .size .height .0 → 0 < d → m < R.layersOf v d → m < plan .left
   unfolding isEmpty
   left-of m pw ph pd h = rw (left-is (no-zero _ _ _ pw ph pd)) h
 
@@ -136,10 +136,10 @@ module _ (c : Copy) (p : BufferTexturePlan) (k : Checks c p) (known : Known (c .
   rowsPerImage = c .layout .«rows_per_image»
 
   abbrev high : ℕ
-  high = c .size .height / f .blockHeight
+  high = c .size .height .0 / f .blockHeight
 
   abbrev rowFor : Part → ℕ
-  rowFor part = orDense bytesPerRow (c .size .width / f .blockWidth * part .bytes)
+  rowFor part = orDense bytesPerRow (c .size .width .0 / f .blockWidth * part .bytes)
 
   several-images : (n : ℕ) → 0 < n → n < d → IsGiven bytesPerRow × IsGiven rowsPerImage
   unfolding denseOf severalRows severalImages
@@ -147,21 +147,21 @@ module _ (c : Copy) (p : BufferTexturePlan) (k : Checks c p) (known : Known (c .
       let e : ltb 1 d ≡ true = lt-ltb 1 d (omega arith) in
       (is-given _ _ (k .accepted .linear .bytes-given) (rw e), is-given _ _ (k .accepted .linear .rows-given) e)
 
-  rows-are : blocksOf (c .size .height) (F.blockHeight (c .texture .format)) ≡ high
+  rows-are : blocksOf (c .size .height .0) (F.blockHeight (c .texture .format)) ≡ high
   rows-are =
-      block-laws _ (every-format (c .texture .format) .height-some) .quotient (c .size .height) (k .accepted .range .height-whole)
-      ∙ ap (λ (n : ℕ). c .size .height / n) (row-of (c .texture .format) known .height)
+      block-laws _ (every-format (c .texture .format) .height-some) .quotient (c .size .height .0) (k .accepted .range .height-whole)
+      ∙ ap (λ (n : ℕ). c .size .height .0 / n) (row-of (c .texture .format) known .height)
 
   several-rows : (n : ℕ) → 0 < n → n < high → IsGiven bytesPerRow
-  unfolding denseOf severalRows
-  several-rows n h l = is-given _ _ (k .accepted .linear .bytes-given) (or-right (ltb 1 d) _ (lt-ltb 1 (blocksOf (c .size .height) (F.blockHeight (c .texture .format))) (rw rows-are (omega arith))))
+  unfolding denseOf inBlocks severalRows
+  several-rows n h l = is-given _ _ (k .accepted .linear .bytes-given) (or-right (ltb 1 d) _ (lt-ltb 1 (blocksOf (c .size .height .0) (F.blockHeight (c .texture .format))) (rw rows-are (omega arith))))
 
   at-byte :
       (m dz n i j : ℕ) (part : Part) → m + dz ≡ n → n < d → j < high
       → c .layout .offset + m * plan .stride + dz * (orDense rowsPerImage high * rowFor part) + j * rowFor part + i * part .bytes
       ≡ c .layout .offset + n * orZero rowsPerImage * orZero bytesPerRow + j * orZero bytesPerRow + i * part .bytes
   at-byte m dz n i j part s hn hj =
-      let e = strides bytesPerRow rowsPerImage (dense .rows) (dense .«row_bytes») high (c .size .width / f .blockWidth * part .bytes) m dz n j s (λ h. several-images n h hn) (λ h. several-rows j h hj) in
+      let e = strides bytesPerRow rowsPerImage (dense .rows .0) (dense .«row_bytes») high (c .size .width .0 / f .blockWidth * part .bytes) m dz n j s (λ h. several-images n h hn) (λ h. several-rows j h hj) in
       omega (arith, e, ap (λ (x : ℕ). m * x) stride-is)
 
   -- ---- a region's block is the standard's
@@ -171,8 +171,8 @@ module _ (c : Copy) (p : BufferTexturePlan) (k : Checks c p) (known : Known (c .
   forward m b byte h q =
       let s = some-left m h in
       let im = image-of v z d m (q .dz) deep (s .0) (s .1) (q .z) in
-      let x = in-blocks (f .blockWidth) (c .view .origin .x) (q .dx) (c .size .width) (side .x-whole) (ap (λ (t : TexelBlock). t .x % f .blockWidth) (sym (q .block)) ∙ q .grid .0) (side .w-whole) (q .x) in
-      let y = in-blocks (f .blockHeight) (c .view .origin .y) (q .dy) (c .size .height) (side .y-whole) (ap (λ (t : TexelBlock). t .y % f .blockHeight) (sym (q .block)) ∙ q .grid .1) (side .h-whole) (q .y) in
+      let x = in-blocks (f .blockWidth) (c .view .origin .x .0) (q .dx) (c .size .width .0) (side .x-whole) (ap (λ (t : TexelBlock). t .x % f .blockWidth) (sym (q .block)) ∙ q .grid .0) (side .w-whole) (q .x) in
+      let y = in-blocks (f .blockHeight) (c .view .origin .y .0) (q .dy) (c .size .height .0) (side .y-whole) (ap (λ (t : TexelBlock). t .y % f .blockHeight) (sym (q .block)) ∙ q .grid .1) (side .h-whole) (q .y) in
       record {
         part = q .part;
         asked = has-named (c .texture .format) (c .view .aspect) known (q .part) (q .known) (q .bits);
@@ -191,8 +191,8 @@ module _ (c : Copy) (p : BufferTexturePlan) (k : Checks c p) (known : Known (c .
   backward b byte q =
       let m = layerFor v (q .k) in
       let im = region-of v z d (q .k) deep (q .image) in
-      let x = in-texels (f .blockWidth) (c .view .origin .x) (q .i) (c .size .width) (side .bw-pos) (side .x-whole) (side .w-whole) (q .column) in
-      let y = in-texels (f .blockHeight) (c .view .origin .y) (q .j) (c .size .height) (side .bh-pos) (side .y-whole) (side .h-whole) (q .row) in
+      let x = in-texels (f .blockWidth) (c .view .origin .x .0) (q .i) (c .size .width .0) (side .bw-pos) (side .x-whole) (side .w-whole) (q .column) in
+      let y = in-texels (f .blockHeight) (c .view .origin .y .0) (q .j) (c .size .height .0) (side .bh-pos) (side .y-whole) (side .h-whole) (q .row) in
       let named = named-has (c .texture .format) (c .view .aspect) known (q .part) (q .asked) in (
         m,
         left-of m (some-blocks _ _ _ (q .column)) (some-blocks _ _ _ (q .row)) (omega (arith, q .image)) (im .there),

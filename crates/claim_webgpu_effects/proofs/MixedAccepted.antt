@@ -5,10 +5,10 @@ use Prim.Native.Nat.{ℕ}
 use native.Mathlib.Omega.{arith}
 use mathlib.Core.List.{flatten}
 use Rattle.conditions.specs.Conditions.{stop-if}
-use Rattle.measures.specs.Measure.{multiple, blocksOf, roundedUp, physicalSize}
+use Rattle.measures.specs.Measure.{multiple, blocksOf, roundedUp, physicalSize, roundUp}
 use Rattle.flags.specs.Flags.{contains}
-use Rattle.mip_levels.specs.Level.{halved, sideAt, mipLevelSize, halvings, maxMipLevels, textureDimension}
-use Rattle.formats.specs.Table.{formats, formatRow, isFormat, blockWidth, blockHeight, aspectsOf, isDepthStencil, removeSrgb, isMultiPlanar}
+use Rattle.mip_levels.specs.Level.{halved, sideAt, mipLevelSize, halvings, maxMipLevels, textureDimension, texelsAt}
+use Rattle.formats.specs.Table.{formats, formatRow, isFormat, blockWidth, blockHeight, aspectsOf, isDepthStencil, removeSrgb, isMultiPlanar, blockDimensions}
 use Rattle.formats.specs.Aspects.{askedOf, chosenAspects, aspectSpecificFormat}
 use Rattle.refusals.specs.Order.{refuse-if, first, decided}
 use Rattle.records.specs.Bounds.{within, sizeInBounds, mipSide, levelsInBounds, mayBeMultisampled, samplesInBounds, dimensionSuits, sidesWhole, planesSuit, fieldsInBounds, formatSuits, textureInBounds, textureChecks}
@@ -29,7 +29,7 @@ abbrev Planned : Copy → Type 0
 Planned c = textureToTexture 0 (c .src) 1 (c .dst) (c .size) ≡ Plan (planFor c)
 
 planned : Planned (example 2 3) × Planned (example 3 2)
-unfolding stop-if multiple blocksOf roundedUp physicalSize contains halved sideAt mipLevelSize halvings maxMipLevels textureDimension formats formatRow isFormat blockWidth blockHeight aspectsOf isDepthStencil removeSrgb isMultiPlanar askedOf chosenAspects aspectSpecificFormat refuse-if first decided flatten within sizeInBounds mipSide levelsInBounds mayBeMultisampled samplesInBounds dimensionSuits sidesWhole planesSuit fieldsInBounds formatSuits textureInBounds textureChecks logicalExtent physicalExtent isPartial overruns dimensionChecks sideChecks blockChecks requiresExactSize rangeChecks selectorChecks isOneTexture isThis isPlaneSplit formatsDiffer copyChecks T.planFor textureToTexture
+unfolding stop-if multiple blocksOf roundedUp roundUp physicalSize contains halved sideAt texelsAt mipLevelSize halvings maxMipLevels textureDimension formats formatRow isFormat blockDimensions aspectsOf isDepthStencil removeSrgb isMultiPlanar askedOf chosenAspects aspectSpecificFormat refuse-if first decided flatten within sizeInBounds mipSide levelsInBounds mayBeMultisampled samplesInBounds dimensionSuits sidesWhole planesSuit fieldsInBounds formatSuits textureInBounds textureChecks logicalExtent physicalExtent isPartial overruns dimensionChecks sideChecks blockChecks requiresExactSize rangeChecks selectorChecks isOneTexture isThis isPlaneSplit formatsDiffer copyChecks T.planFor textureToTexture
 planned = (refl, refl)
 
 r8unorm : W.Known 0

@@ -58,11 +58,11 @@ unfolding T.dimension dimensionOf
 dimension-is s = refl
 
 plain-side : (s : TextureSide) (layer bits : ℕ) → T.sideOf s layer bits 1 ≡ plainSide s layer bits
-plain-side s layer bits = rw (dimension-is s, same-layer (dimension s) (z s), same-z (dimension s) (z s), div-one (s .view .origin .x), div-one (s .view .origin .y))
+plain-side s layer bits = rw (dimension-is s, same-layer (dimension s) (z s), same-z (dimension s) (z s), div-one (s .view .origin .x .0), div-one (s .view .origin .y .0))
 
 plain-region : (c : T.Copy) (layer : ℕ) (q : T.Part) → q .factor ≡ 1 → T.regionOf c layer q ≡ plain c layer (q .src) (q .dst)
 plain-region c layer q e =
-    rw (e, plain-side (c .src) layer (q .src), plain-side (c .dst) layer (q .dst), div-one (c .size .width), div-one (c .size .height), dimension-is (c .src), dimension-is (c .dst), same-depth (dimension (c .src)) (T.depth c), same-depth (dimension (c .dst)) (T.depth c))
+    rw (e, plain-side (c .src) layer (q .src), plain-side (c .dst) layer (q .dst), div-one (c .size .width .0), div-one (c .size .height .0), dimension-is (c .src), dimension-is (c .dst), same-depth (dimension (c .src)) (T.depth c), same-depth (dimension (c .dst)) (T.depth c))
 
 -- ---- what they do, by layer and depth
 
@@ -74,8 +74,8 @@ shifted s layer dz aspect i j =
       aspect = aspect;
       layer = S.layerOf (dimension s) (z s) + layer;
       slice = S.zOf (dimension s) (z s) + dz;
-      x = s .view .origin .x + i * formatOf (s .texture .format) .blockWidth;
-      y = s .view .origin .y + j * formatOf (s .texture .format) .blockHeight;
+      x = s .view .origin .x .0 + i * formatOf (s .texture .format) .blockWidth;
+      y = s .view .origin .y .0 + j * formatOf (s .texture .format) .blockHeight;
     }
 
 pub record Done (c : T.Copy) (from to : TexelBlock) : Type 0 where
@@ -122,8 +122,8 @@ module _ (c : T.Copy) (rs : List TextureCopy) (k : Accepted c rs) where
     imaged : (src dst : ℕ) (q : Carries f (plain c layer src dst) from to) → HasBit word (q .aspect) → ImageCopied c (shifted (c .src) layer (q .dz)) (shifted (c .dst) layer (q .dz)) from to
     imaged src dst q has =
         let format = c .dst .texture .format in
-        let x = in-blocks (f .blockWidth) (c .dst .view .origin .x) (q .dx) (c .size .width) (dst-side .x-whole) (ap (λ (t : TexelBlock). t .x % f .blockWidth) (sym (q .destination)) ∙ q .grid .0) (dst-side .w-whole) (q .x) in
-        let y = in-blocks (f .blockHeight) (c .dst .view .origin .y) (q .dy) (c .size .height) (dst-side .y-whole) (ap (λ (t : TexelBlock). t .y % f .blockHeight) (sym (q .destination)) ∙ q .grid .1) (dst-side .h-whole) (q .y) in
+        let x = in-blocks (f .blockWidth) (c .dst .view .origin .x .0) (q .dx) (c .size .width .0) (dst-side .x-whole) (ap (λ (t : TexelBlock). t .x % f .blockWidth) (sym (q .destination)) ∙ q .grid .0) (dst-side .w-whole) (q .x) in
+        let y = in-blocks (f .blockHeight) (c .dst .view .origin .y .0) (q .dy) (c .size .height .0) (dst-side .y-whole) (ap (λ (t : TexelBlock). t .y % f .blockHeight) (sym (q .destination)) ∙ q .grid .1) (dst-side .h-whole) (q .y) in
         let part = part-of format (q .aspect) (k .dst-known) has in
         record {
           part = part .0;
@@ -140,8 +140,8 @@ module _ (c : T.Copy) (rs : List TextureCopy) (k : Accepted c rs) where
         (dz src dst : ℕ) → dz < regionDepth c → (q : ImageCopied c (shifted (c .src) layer dz) (shifted (c .dst) layer dz) from to)
         → HasBit src (q .part .aspect) → HasBit dst (q .part .aspect) → Carries f (plain c layer src dst) from to
     carries dz src dst deep q hs hd =
-        let x = in-texels (f .blockWidth) (c .dst .view .origin .x) (q .i) (c .size .width) (dst-side .bw-pos) (dst-side .x-whole) (dst-side .w-whole) (q .column) in
-        let y = in-texels (f .blockHeight) (c .dst .view .origin .y) (q .j) (c .size .height) (dst-side .bh-pos) (dst-side .y-whole) (dst-side .h-whole) (q .row) in
+        let x = in-texels (f .blockWidth) (c .dst .view .origin .x .0) (q .i) (c .size .width .0) (dst-side .bw-pos) (dst-side .x-whole) (dst-side .w-whole) (q .column) in
+        let y = in-texels (f .blockHeight) (c .dst .view .origin .y .0) (q .j) (c .size .height .0) (dst-side .bh-pos) (dst-side .y-whole) (dst-side .h-whole) (q .row) in
         record {
           aspect = q .part .aspect;
           src-bits = hs;
@@ -167,7 +167,7 @@ module _ (c : T.Copy) (rs : List TextureCopy) (k : Accepted c rs) where
       let has = parts.part-has (k .i) (k .j) c checks (k .src-known) (k .dst-known) (s .part) in
       let w : Carries f (plain c (s .layer) (s .part .src) (s .part .dst)) from to = rw (plain-region c (s .layer) (s .part) (has (q′ .aspect) (s .of-copy) (q′ .src-bits) .1)) at q′ in
       record {
-        some = depth-some (c .size .width) (c .size .height) (T.depth c) (s .some);
+        some = depth-some (c .size .width .0) (c .size .height .0) (T.depth c) (s .some);
         layer = s .layer;
         dz = w .dz;
         there = rw layers-are at (s .there);
@@ -180,7 +180,7 @@ module _ (c : T.Copy) (rs : List TextureCopy) (k : Accepted c rs) where
       let im = d .image in
       let named = named-has (c .dst .texture .format) (c .dst .view .aspect) (k .dst-known) (im .part) (im .asked) in
       let q = parts.has-part (k .i) (k .j) c checks (k .src-known) (k .dst-known) (im .part .aspect) (rw chosen at (named .1)) in
-      let some = no-zero (c .size .width) (c .size .height) (T.depth c) (some-blocks _ _ _ (im .column)) (some-blocks _ _ _ (im .row)) (d .some) in
+      let some = no-zero (c .size .width .0) (c .size .height .0) (T.depth c) (some-blocks _ _ _ (im .column)) (some-blocks _ _ _ (im .row)) (d .some) in
       let r = T.regionOf c (d .layer) (q .0) in
       let w : Carries f r from to = rw (plain-region c (d .layer) (q .0) (q .4)) (carries from to (d .layer) (d .dz) (q .0 .src) (q .0 .dst) (d .deep) im (q .2) (q .3)) in
       (r, among r (parts.joined c (d .layer) (q .0) some (rw layers-are (d .there)) (q .1)), w)

@@ -54,7 +54,7 @@ ImagesMissed =
 -- and there is such a block
 abbrev pub TheyPart : Type 0
 TheyPart =
-    (c : Copy) (rs : List TextureCopy) → Accepted c rs → Mixed c → 0 < c .size .width → 0 < c .size .height → 1 < depth c
+    (c : Copy) (rs : List TextureCopy) → Accepted c rs → Mixed c → 0 < c .size .width .0 → 0 < c .size .height .0 → 1 < depth c
     → (from : TexelBlock) × (to : TexelBlock) × Copies c from to × (CarriedBy c rs from to → ⊥)
 
 -- ---- there is no third case: a copy with a 1D texture has at most one image
@@ -71,16 +71,16 @@ twoImages dimension =
           record {
             format = 0;
             dimension = dimension;
-            size = record { width = 1; height = 1; «depth_or_array_layers» = 2 };
+            size = record { width = record { 0 = 1 }; height = record { 0 = 1 }; «depth_or_array_layers» = 2 };
             «mip_level_count» = 1;
             «sample_count» = 1;
             usage = record { 0 = 3 };
           };
-      view = record { «mip_level» = 0; origin = record { x = 0; y = 0; z = 0 }; aspect = All };
+      view = record { «mip_level» = 0; origin = record { x = record { 0 = 0 }; y = record { 0 = 0 }; z = 0 }; aspect = All };
     }
 
 abbrev pub example : ℕ → ℕ → Copy
-example src dst = record { src = twoImages src; dst = twoImages dst; size = record { width = 1; height = 1; «depth_or_array_layers» = 2 } }
+example src dst = record { src = twoImages src; dst = twoImages dst; size = record { width = record { 0 = 1 }; height = record { 0 = 1 }; «depth_or_array_layers» = 2 } }
 
 abbrev pub IsAccepted : Copy → Type 0
 IsAccepted c = (rs : List TextureCopy) × Accepted c rs

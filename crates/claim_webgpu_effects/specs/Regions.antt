@@ -26,8 +26,8 @@ blockFrom base aspect dx dy dz =
       aspect = aspect;
       layer = base .«array_layer»;
       slice = base .origin .z + dz;
-      x = base .origin .x + dx;
-      y = base .origin .y + dy;
+      x = base .origin .x .0 + dx;
+      y = base .origin .y .0 + dy;
     }
 
 -- an absent value counts as the dense one
@@ -44,15 +44,15 @@ pub record Puts (f : Format) (r : BufferTextureCopy) (b : TexelBlock) (byte : �
   pub dx : ℕ
   pub dy : ℕ
   pub dz : ℕ
-  pub x : dx < r .size .width
-  pub y : dy < r .size .height
+  pub x : dx < r .size .width .0
+  pub y : dy < r .size .height .0
   pub z : dz < r .size .depth
   pub block : b ≡ blockFrom (r .base) (part .aspect) dx dy dz
   pub grid : OnGrid f b
   pub at :
       byte
-      ≡ (let row = orDense (r .«bytes_per_row») (r .size .width / f .blockWidth * part .bytes) in
-      let image = orDense (r .«rows_per_image») (r .size .height / f .blockHeight) * row in
+      ≡ (let row = orDense (r .«bytes_per_row») (r .size .width .0 / f .blockWidth * part .bytes) in
+      let image = orDense (r .«rows_per_image») (r .size .height .0 / f .blockHeight) * row in
       r .offset + dz * image + dy / f .blockHeight * row + dx / f .blockWidth * part .bytes)
 
 -- a region between textures: each block that starts in the destination's box, of each aspect in its bits, becomes the block at the
@@ -64,8 +64,8 @@ pub record Carries (f : Format) (r : TextureCopy) (from to : TexelBlock) : Type 
   pub dx : ℕ
   pub dy : ℕ
   pub dz : ℕ
-  pub x : dx < r .size .width
-  pub y : dy < r .size .height
+  pub x : dx < r .size .width .0
+  pub y : dy < r .size .height .0
   pub z : dz < r .size .depth
   pub source : from ≡ blockFrom (r .src) aspect dx dy dz
   pub destination : to ≡ blockFrom (r .dst) aspect dx dy dz

@@ -31,8 +31,8 @@ blockAt t view aspect i j k =
       aspect = aspect;
       layer = layerOf (dimensionOf (t .dimension)) (view .origin .z + k);
       slice = sliceOf (dimensionOf (t .dimension)) (view .origin .z + k);
-      x = view .origin .x + i * formatOf (t .format) .blockWidth;
-      y = view .origin .y + j * formatOf (t .format) .blockHeight;
+      x = view .origin .x .0 + i * formatOf (t .format) .blockWidth;
+      y = view .origin .y .0 + j * formatOf (t .format) .blockHeight;
     }
 
 -- ---- between a buffer and a texture
@@ -44,8 +44,8 @@ pub record Stands (c : Copy) (b : TexelBlock) (byte : ℕ) : Type 0 where
   pub i : ℕ
   pub j : ℕ
   pub k : ℕ
-  pub column : i < c .size .width / formatOf (c .texture .format) .blockWidth
-  pub row : j < c .size .height / formatOf (c .texture .format) .blockHeight
+  pub column : i < c .size .width .0 / formatOf (c .texture .format) .blockWidth
+  pub row : j < c .size .height .0 / formatOf (c .texture .format) .blockHeight
   pub image : k < c .size .«depth_or_array_layers»
   pub block : b ≡ blockAt (c .texture) (c .view) (part .aspect) i j k
   pub at :
@@ -61,8 +61,8 @@ pub record ImageCopied (c : T.Copy) (source destination : Aspect → ℕ → ℕ
   pub asked : In part (named (formatOf (c .dst .texture .format)) (c .dst .view .aspect))
   pub i : ℕ
   pub j : ℕ
-  pub column : i < c .size .width / formatOf (c .dst .texture .format) .blockWidth
-  pub row : j < c .size .height / formatOf (c .dst .texture .format) .blockHeight
+  pub column : i < c .size .width .0 / formatOf (c .dst .texture .format) .blockWidth
+  pub row : j < c .size .height .0 / formatOf (c .dst .texture .format) .blockHeight
   pub taken : from ≡ source (part .aspect) i j
   pub written : to ≡ destination (part .aspect) i j
 

@@ -13,7 +13,7 @@ use Rattle.conditions.proofs.Rules.{either}
 use Rattle.measures.specs.declared.Extent3d.{Extent3d}
 use Rattle.measures.specs.declared.OptionU32.{OptionU32}
 use Rattle.measures.specs.declared.OptionU32.the-variants.{Given, Absent}
-use Rattle.measures.specs.Measure.{blocksOf, orElse}
+use Rattle.measures.specs.Measure.{blocksOf, inBlocks, orElse}
 use Rattle.measures.proofs.Rounding.{blocks-of-whole}
 use Rattle.formats.specs.declared.TextureAspect.{TextureAspect}
 use Rattle.formats.specs.Table.{blockWidth, blockHeight}
@@ -90,17 +90,17 @@ module _ (layout : TexelCopyBufferLayout) (d : Dense) where
   P = orZero (layout .«rows_per_image»)
 
   abbrev image : ℕ
-  image = cond (eqb (d .rows) 0) 0 (S * (d .rows - 1) + d .«row_bytes»)
+  image = cond (eqb (d .rows .0) 0) 0 (S * (d .rows .0 - 1) + d .«row_bytes»)
 
-  image-is : (1 < d .rows → IsGiven (layout .«bytes_per_row»)) → imageBytes layout d ≡ image
+  image-is : (1 < d .rows .0 → IsGiven (layout .«bytes_per_row»)) → imageBytes layout d ≡ image
   unfolding stacked
   image-is g =
-      ap (λ (n : ℕ). pick (eqb (d .rows) 0) 0 (n + d .«row_bytes»))
-      (strides (d .rows) (rowStride layout d) S (λ m. same-given (layout .«bytes_per_row») (d .«row_bytes») (g m)))
-      ∙ picked (eqb (d .rows) 0) 0 _
+      ap (λ (n : ℕ). pick (eqb (d .rows .0) 0) 0 (n + d .«row_bytes»))
+      (strides (d .rows .0) (rowStride layout d) S (λ m. same-given (layout .«bytes_per_row») (d .«row_bytes») (g m)))
+      ∙ picked (eqb (d .rows .0) 0) 0 _
 
   total-is :
-      (1 < d .rows → IsGiven (layout .«bytes_per_row»)) → (1 < d .images → IsGiven (layout .«bytes_per_row») × IsGiven (layout .«rows_per_image»))
+      (1 < d .rows .0 → IsGiven (layout .«bytes_per_row»)) → (1 < d .images → IsGiven (layout .«bytes_per_row») × IsGiven (layout .«rows_per_image»))
       → totalBytes layout d ≡ cond (eqb (d .images) 0) 0 (S * P * (d .images - 1) + image)
   unfolding stacked
   total-is g h =
@@ -111,18 +111,18 @@ module _ (layout : TexelCopyBufferLayout) (d : Dense) where
       stride-is : 1 < d .images → imageStride layout d ≡ S * P
       stride-is m =
           let both = h m in
-          ap (λ (n : ℕ). n * rowStride layout d) (same-given (layout .«rows_per_image») (d .rows) (both .1))
+          ap (λ (n : ℕ). n * rowStride layout d) (same-given (layout .«rows_per_image») (d .rows .0) (both .1))
           ∙ ap (λ (n : ℕ). P * n) (same-given (layout .«bytes_per_row») (d .«row_bytes») (both .0))
           ∙ mul-comm P S
 
 -- what has to be given: rows by more than one row or image, images by more than one image
-several-rows : (d : Dense) → 1 < d .rows → severalRows d ≡ true
+several-rows : (d : Dense) → 1 < d .rows .0 → severalRows d ≡ true
 unfolding severalRows
 several-rows d h = go (ltb 1 (d .images))
   where
-    go : (s : Bool) → (s || ltb 1 (d .rows)) ≡ true
+    go : (s : Bool) → (s || ltb 1 (d .rows .0)) ≡ true
     go true = refl
-    go false = lt-ltb 1 (d .rows) h
+    go false = lt-ltb 1 (d .rows .0) h
 
 several-images : (d : Dense) → 1 < d .images → (severalRows d ≡ true) × (severalImages d ≡ true)
 unfolding severalRows severalImages
@@ -153,15 +153,15 @@ module _ (layout : TexelCopyBufferLayout) (format : ℕ) (aspect : TextureAspect
   counted : (n ours theirs : ℕ) → ours ≡ theirs → 0 < ours → n % theirs ≡ 0 → blocksOf n ours ≡ n / theirs
   counted n ours theirs e pos h = blocks-of-whole ours pos n (rw e h) ∙ ap (λ (b : ℕ). n / b) e
 
-  wide : d .«row_bytes» ≡ size .width / formatOf format .blockWidth * blockBytes format aspect
-  unfolding denseOf
+  wide : d .«row_bytes» ≡ size .width .0 / formatOf format .blockWidth * blockBytes format aspect
+  unfolding denseOf inBlocks
   wide =
-      ap (λ (n : ℕ). n * linear.blockBytes format aspect) (counted (size .width) _ _ (row-of format (i .known) .width) (every-format format .width-some) (f .width-whole))
-      ∙ ap (λ (n : ℕ). size .width / formatOf format .blockWidth * n) (bytes-are format aspect i)
+      ap (λ (n : ℕ). n * linear.blockBytes format aspect) (counted (size .width .0) _ _ (row-of format (i .known) .width) (every-format format .width-some) (f .width-whole))
+      ∙ ap (λ (n : ℕ). size .width .0 / formatOf format .blockWidth * n) (bytes-are format aspect i)
 
-  high : d .rows ≡ size .height / formatOf format .blockHeight
-  unfolding denseOf
-  high = counted (size .height) _ _ (row-of format (i .known) .height) (every-format format .height-some) (f .height-whole)
+  high : d .rows .0 ≡ size .height .0 / formatOf format .blockHeight
+  unfolding denseOf inBlocks
+  high = counted (size .height .0) _ _ (row-of format (i .known) .height) (every-format format .height-some) (f .height-whole)
 
   deep : d .images ≡ size .«depth_or_array_layers»
   unfolding denseOf
@@ -172,7 +172,7 @@ module _ (layout : TexelCopyBufferLayout) (format : ℕ) (aspect : TextureAspect
       cond (eqb images 0) 0
       (S layout d * P layout d * (images - 1) + cond (eqb rows 0) 0 (S layout d * (rows - 1) + row))
 
-  required-is : required (d .«row_bytes») (d .rows) (d .images) ≡ requiredBytes layout format aspect size bufferSize
+  required-is : required (d .«row_bytes») (d .rows .0) (d .images) ≡ requiredBytes layout format aspect size bufferSize
   unfolding requiredBytesInCopy
   required-is = rw (wide, high, deep)
 
@@ -181,14 +181,14 @@ module _ (layout : TexelCopyBufferLayout) (format : ℕ) (aspect : TextureAspect
   holds m e =
       let r = linear-went layout format aspect bufferSize side size m e in
       let l = r .0 in
-      let rows : 1 < d .rows → IsGiven (layout .«bytes_per_row») = λ h. is-given (layout .«bytes_per_row») (severalRows d) (l .bytes-given) (several-rows d h) in
+      let rows : 1 < d .rows .0 → IsGiven (layout .«bytes_per_row») = λ h. is-given (layout .«bytes_per_row») (severalRows d) (l .bytes-given) (several-rows d h) in
       let images : 1 < d .images → IsGiven (layout .«bytes_per_row») × IsGiven (layout .«rows_per_image») = λ h. (is-given (layout .«bytes_per_row») (severalRows d) (l .bytes-given) (several-images d h .0), is-given (layout .«rows_per_image») (severalImages d) (l .rows-given) (several-images d h .1)) in
       let t = total-is layout d rows images ∙ required-is in (
         record {
           rows-given = λ h. rows (rw high h);
           images-given = λ h. images (rw deep h);
           row-fits = rw (← wide) (at-least (layout .«bytes_per_row») (d .«row_bytes») (l .row-fits));
-          image-fits = rw (← high) (at-least (layout .«rows_per_image») (d .rows) (l .rows-fit));
+          image-fits = rw (← high) (at-least (layout .«rows_per_image») (d .rows .0) (l .rows-fit));
           inside = rw (← t) (l .inside);
         },
         sym (ap (λ (n : LinearData). n .«bytes_in_copy») (r .1)) ∙ t,
@@ -198,22 +198,22 @@ module _ (layout : TexelCopyBufferLayout) (format : ℕ) (aspect : TextureAspect
   unfolding severalRows severalImages
   goes-on v =
       let row-small : d .«row_bytes» < 2 ^ 32 = rw wide (f .row-small) in
-      let rows-small : d .rows < 2 ^ 32 = rw high (f .rows-small) in
-      let rows : 1 < d .rows → IsGiven (layout .«bytes_per_row») = λ h. v .rows-given (rw high at h) in
+      let rows-small : d .rows .0 < 2 ^ 32 = rw high (f .rows-small) in
+      let rows : 1 < d .rows .0 → IsGiven (layout .«bytes_per_row») = λ h. v .rows-given (rw high at h) in
       let images : 1 < d .images → IsGiven (layout .«bytes_per_row») × IsGiven (layout .«rows_per_image») = λ h. v .images-given (rw deep at h) in
       let t = total-is layout d rows images ∙ required-is in
       let row = fits32 (layout .«bytes_per_row») (d .«row_bytes») (f .bytes-field) row-small in
-      let high-rows = fits32 (layout .«rows_per_image») (d .rows) (f .rows-field) rows-small in (
+      let high-rows = fits32 (layout .«rows_per_image») (d .rows .0) (f .rows-field) rows-small in (
         linearData layout d,
         linear-goes layout format aspect bufferSize side size (f .buffer-field)
             (record {
               row-fits = or-else (layout .«bytes_per_row») (d .«row_bytes») (rw wide (v .row-fits));
-              rows-fit = or-else (layout .«rows_per_image») (d .rows) (rw high (v .image-fits));
+              rows-fit = or-else (layout .«rows_per_image») (d .rows .0) (rw high (v .image-fits));
               bytes-given = not-lacking (layout .«bytes_per_row») (severalRows d) (λ e. bytes-needed rows images e);
               rows-given = not-lacking (layout .«rows_per_image») (severalImages d) (λ e. images (needed-images e) .1);
               inside = rw t (v .inside);
               stride-fits = let p = product (imageRows layout d) (rowStride layout d) high-rows row in omega arith;
-              image-fits = stacked-fits (d .rows) (rowStride layout d) (d .«row_bytes») rows-small row row-small;
+              image-fits = stacked-fits (d .rows .0) (rowStride layout d) (d .«row_bytes») rows-small row row-small;
             }),
       )
     where
@@ -221,9 +221,9 @@ module _ (layout : TexelCopyBufferLayout) (format : ℕ) (aspect : TextureAspect
       needed-images e = ltb-true 1 (d .images) e
 
       bytes-needed :
-          (1 < d .rows → IsGiven (layout .«bytes_per_row»)) → (1 < d .images → IsGiven (layout .«bytes_per_row») × IsGiven (layout .«rows_per_image»))
+          (1 < d .rows .0 → IsGiven (layout .«bytes_per_row»)) → (1 < d .images → IsGiven (layout .«bytes_per_row») × IsGiven (layout .«rows_per_image»))
           → severalRows d ≡ true → IsGiven (layout .«bytes_per_row»)
-      bytes-needed rows images e = ⊎-elim (λ i. images (ltb-true 1 (d .images) i) .0) (λ r. rows (ltb-true 1 (d .rows) r)) (either (ltb 1 (d .images)) (ltb 1 (d .rows)) e)
+      bytes-needed rows images e = ⊎-elim (λ i. images (ltb-true 1 (d .images) i) .0) (λ r. rows (ltb-true 1 (d .rows .0) r)) (either (ltb 1 (d .images)) (ltb 1 (d .rows .0)) e)
 
 pub linear-rules : LinearRules
 linear-rules layout format aspect size bufferSize side i f = record { holds = holds layout format aspect size bufferSize side i f; goes-on = goes-on layout format aspect size bufferSize side i f }

@@ -57,7 +57,7 @@ aspectTests a f =
     ∷ []
 
 formats-pass : everyBelow (λ f. every (formatTests f)) 21 ≡ true
-unfolding formatTests P.formats P.formatRow P.blockWidth P.blockHeight P.aspectsOf P.isDepthStencil formats formatOf anyDepthOrStencil isDepthOrStencil
+unfolding formatTests P.formats P.formatRow P.blockDimensions P.aspectsOf P.isDepthStencil formats formatOf anyDepthOrStencil isDepthOrStencil
 formats-pass = refl
 
 aspects-pass : (a : TextureAspect) → everyBelow (λ f. every (aspectTests a f)) 21 ≡ true

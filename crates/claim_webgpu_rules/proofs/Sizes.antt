@@ -8,12 +8,12 @@ use native.Mathlib.Nat.{pos-of-ne-zero, div-add-mod', pow-zero}
 use lib.Dec.{eqb, ltb}
 use borrow.Author.Tests.{eqb-true, eqb-false, ltb-true, ltb-false}
 use Rattle.conditions.specs.Conditions.{stop-if}
-use Rattle.measures.specs.Measure.{roundedUp, blocksOf, physicalSize}
+use Rattle.measures.specs.Measure.{roundedUp, blocksOf, physicalSize, roundUp}
 use Rattle.measures.proofs.Rounding.{blocks-of-whole, blocks-of-rest}
 use Rattle.measures.specs.declared.Extent3d.{Extent3d}
 use Rattle.mip_levels.specs.declared.TextureDimension.{TextureDimension}
 use Rattle.mip_levels.specs.declared.TextureDimension.the-variants.{D1, D2, D3}
-use Rattle.mip_levels.specs.Level.{sideAt, mipLevelSize, maxMipLevels}
+use Rattle.mip_levels.specs.Level.{sideAt, mipLevelSize, maxMipLevels, texelsAt}
 use Rattle.mip_levels.specs.Level as levels
 use Rattle.mip_levels.proofs.Halving.{level-laws, reaches, reached}
 use Rattle.formats.proofs.Rows.{every-format}
@@ -39,10 +39,10 @@ unfolding sideAt
 half-is n level = ap (λ (k : ℕ). max 1 k) (level-laws .halves n level)
 
 size-is : (d : TextureDimension) (e : Extent3d) (level : ℕ) → mipLevelSize d e level ≡ logicalSize d e level
-unfolding mipLevelSize logicalSize
-size-is D1 e level = rw (half-is (e .width) level)
-size-is D2 e level = rw (half-is (e .width) level, half-is (e .height) level)
-size-is D3 e level = rw (half-is (e .width) level, half-is (e .height) level, half-is (e .«depth_or_array_layers») level)
+unfolding texelsAt mipLevelSize logicalSize
+size-is D1 e level = rw (half-is (e .width .0) level)
+size-is D2 e level = rw (half-is (e .width .0) level, half-is (e .height .0) level)
+size-is D3 e level = rw (half-is (e .width .0) level, half-is (e .height .0) level, half-is (e .«depth_or_array_layers») level)
 
 pub logical-extents : LogicalExtents
 unfolding logicalExtent
@@ -60,13 +60,13 @@ block-is n block pos = go (eqb (n % block) 0) refl
     go false e = ap (λ (k : ℕ). k * block) (blocks-of-rest block pos n (pos-of-ne-zero (eqb-false (n % block) 0 e)))
 
 pub physical-extents : PhysicalExtents
-unfolding physicalExtent physicalSize physicalSubresourceSize
+unfolding physicalExtent roundUp physicalSize physicalSubresourceSize
 physical-extents t level k =
     let f = every-format (t .format) in
     let r = row-of (t .format) k in
     let e = logicalSize (dimensionOf (t .dimension)) (t .size) level in
     rw (logical-extents t level)
-    (rw (block-is (e .width) _ (f .width-some), block-is (e .height) _ (f .height-some), r .width, r .height))
+    (rw (block-is (e .width .0) _ (f .width-some), block-is (e .height .0) _ (f .height-some), r .width, r .height))
 
 -- the last level is reached, and the next is not
 counted : (n : ℕ) → 0 < n → (0 < maxMipLevels n) × (2 ^ (maxMipLevels n - 1) ≤ n) × (n < 2 ^ maxMipLevels n)

@@ -22,8 +22,8 @@ use Rattle.claim_webgpu_rules.specs.Agreement.{GoesOn, SomeLayers, Range
 use Rattle.claim_webgpu_rules.proofs.Rows.{decided, row-of}
 use Rattle.claim_webgpu_rules.proofs.Sizes.{physical-extents}
 
-same-extent : (a b : Extent3d) → a .width ≡ b .width → a .height ≡ b .height → a .«depth_or_array_layers» ≡ b .«depth_or_array_layers» → a ≡ b
-same-extent a b w h d = λ i. record { width = w i; height = h i; «depth_or_array_layers» = d i }
+same-extent : (a b : Extent3d) → a .width .0 ≡ b .width .0 → a .height .0 ≡ b .height .0 → a .«depth_or_array_layers» ≡ b .«depth_or_array_layers» → a ≡ b
+same-extent a b w h d = λ i. record { width = record { 0 = w i }; height = record { 0 = h i }; «depth_or_array_layers» = d i }
 
 -- which textures are copied whole
 exact-of : (t : Texture) → Known (t .format) → CopiedWhole t → requiresExactSize t ≡ true
@@ -54,11 +54,11 @@ module _ (view : TexelCopyTextureInfo) (t : Texture) (size : Extent3d) (k : Know
   same : ours ≡ theirs
   same = physical-extents t (view .«mip_level») k
 
-  width : ours .width ≡ theirs .width
-  width = ap (λ (e : Extent3d). e .width) same
+  width : ours .width .0 ≡ theirs .width .0
+  width = ap (λ (e : Extent3d). e .width .0) same
 
-  height : ours .height ≡ theirs .height
-  height = ap (λ (e : Extent3d). e .height) same
+  height : ours .height .0 ≡ theirs .height .0
+  height = ap (λ (e : Extent3d). e .height .0) same
 
   depth : ours .«depth_or_array_layers» ≡ theirs .«depth_or_array_layers»
   depth = ap (λ (e : Extent3d). e .«depth_or_array_layers») same
@@ -76,8 +76,8 @@ module _ (view : TexelCopyTextureInfo) (t : Texture) (size : Extent3d) (k : Know
       same-extent theirs size (sym (r .exact-width e ∙ width)) (sym (r .exact-height e ∙ height)) (decided _ _ (λ f. within (c, f)))
   whole-by OneLayer within r c = let e = exact-of t k c in (sym (r .exact-width e ∙ width), sym (r .exact-height e ∙ height))
 
-  sides : (reading : Reading) → IsWhole reading theirs size → (theirs .width ≡ size .width) × (theirs .height ≡ size .height)
-  sides WithLayers e = (ap (λ (x : Extent3d). x .width) e, ap (λ (x : Extent3d). x .height) e)
+  sides : (reading : Reading) → IsWhole reading theirs size → (theirs .width .0 ≡ size .width .0) × (theirs .height .0 ≡ size .height .0)
+  sides WithLayers e = (ap (λ (x : Extent3d). x .width .0) e, ap (λ (x : Extent3d). x .height .0) e)
   sides OneLayer e = e
 
   valid : (reading : Reading) → (Excepted reading t view size → ⊥) → RangeLaws view t size → TexelCopyTexture reading t view size

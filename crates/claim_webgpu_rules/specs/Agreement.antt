@@ -111,10 +111,10 @@ Fits32 O.Absent = Unit {0}
 
 module _ (layout : TexelCopyBufferLayout) (format : ℕ) (aspect : TextureAspect) (size : Extent3d) (bufferSize : ℕ) where
   abbrev pub wide : ℕ
-  wide = size .width / formatOf format .blockWidth
+  wide = size .width .0 / formatOf format .blockWidth
 
   abbrev pub high : ℕ
-  high = size .height / formatOf format .blockHeight
+  high = size .height .0 / formatOf format .blockHeight
 
   abbrev pub Standard : Type 0
   Standard = W.LinearTextureData layout wide high (W.blockBytes format aspect) (size .«depth_or_array_layers») bufferSize
@@ -127,8 +127,8 @@ module _ (layout : TexelCopyBufferLayout) (format : ℕ) (aspect : TextureAspect
     pub bytes-field : Fits32 (layout .«bytes_per_row»)
     pub rows-field : Fits32 (layout .«rows_per_image»)
     pub buffer-field : bufferSize < 2 ^ 64
-    pub width-whole : size .width % formatOf format .blockWidth ≡ 0
-    pub height-whole : size .height % formatOf format .blockHeight ≡ 0
+    pub width-whole : size .width .0 % formatOf format .blockWidth ≡ 0
+    pub height-whole : size .height .0 % formatOf format .blockHeight ≡ 0
     pub row-small : wide * W.blockBytes format aspect < 2 ^ 32
     pub rows-small : high < 2 ^ 32
 

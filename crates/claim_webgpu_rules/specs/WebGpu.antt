@@ -44,12 +44,12 @@ abbrev pub halfAt : ℕ → ℕ → ℕ
 halfAt base level = max 1 (base / 2 ^ level)
 
 abbrev pub extent : ℕ → ℕ → ℕ → Extent3d
-extent width height depth = record { width = width; height = height; «depth_or_array_layers» = depth }
+extent width height depth = record { width = record { 0 = width }; height = record { 0 = height }; «depth_or_array_layers» = depth }
 
 unfoldable pub logicalSize : TextureDimension → Extent3d → ℕ → Extent3d
-logicalSize D1 e level = extent (halfAt (e .width) level) 1 1
-logicalSize D2 e level = extent (halfAt (e .width) level) (halfAt (e .height) level) (e .«depth_or_array_layers»)
-logicalSize D3 e level = extent (halfAt (e .width) level) (halfAt (e .height) level) (halfAt (e .«depth_or_array_layers») level)
+logicalSize D1 e level = extent (halfAt (e .width .0) level) 1 1
+logicalSize D2 e level = extent (halfAt (e .width .0) level) (halfAt (e .height .0) level) (e .«depth_or_array_layers»)
+logicalSize D3 e level = extent (halfAt (e .width .0) level) (halfAt (e .height .0) level) (halfAt (e .«depth_or_array_layers») level)
 
 -- a side rounded up to the texel block: as it is where it is a multiple, else the next one
 unfoldable pub toBlock : ℕ → ℕ → ℕ
@@ -59,14 +59,14 @@ unfoldable pub physicalSubresourceSize : Texture → ℕ → Extent3d
 physicalSubresourceSize t level =
     let e = logicalSize (dimensionOf (t .dimension)) (t .size) level in
     let f = formatOf (t .format) in
-    extent (toBlock (e .width) (f .blockWidth)) (toBlock (e .height) (f .blockHeight)) (e .«depth_or_array_layers»)
+    extent (toBlock (e .width .0) (f .blockWidth)) (toBlock (e .height .0) (f .blockHeight)) (e .«depth_or_array_layers»)
 
 -- ---- "maximum mip level count": floor(log2(n)) + 1 of the largest side that counts; 1 in 1D
 
 abbrev pub mipSide : TextureDimension → Extent3d → ℕ
 mipSide D1 e = 1
-mipSide D2 e = max (e .width) (e .height)
-mipSide D3 e = max (max (e .width) (e .height)) (e .«depth_or_array_layers»)
+mipSide D2 e = max (e .width .0) (e .height .0)
+mipSide D3 e = max (max (e .width .0) (e .height .0)) (e .«depth_or_array_layers»)
 
 pub record MaxMipLevelCount (dimension : TextureDimension) (e : Extent3d) (count : ℕ) : Type 0 where
   pub some : 0 < count
@@ -76,11 +76,11 @@ pub record MaxMipLevelCount (dimension : TextureDimension) (e : Extent3d) (count
 -- ---- "validating texture copy range"
 
 pub record TextureCopyRange (t : Texture) (view : TexelCopyTextureInfo) (copySize : Extent3d) : Type 0 where
-  pub x : view .origin .x + copySize .width ≤ physicalSubresourceSize t (view .«mip_level») .width
-  pub y : view .origin .y + copySize .height ≤ physicalSubresourceSize t (view .«mip_level») .height
+  pub x : view .origin .x .0 + copySize .width .0 ≤ physicalSubresourceSize t (view .«mip_level») .width .0
+  pub y : view .origin .y .0 + copySize .height .0 ≤ physicalSubresourceSize t (view .«mip_level») .height .0
   pub z : view .origin .z + copySize .«depth_or_array_layers» ≤ physicalSubresourceSize t (view .«mip_level») .«depth_or_array_layers»
-  pub width : copySize .width % formatOf (t .format) .blockWidth ≡ 0
-  pub height : copySize .height % formatOf (t .format) .blockHeight ≡ 0
+  pub width : copySize .width .0 % formatOf (t .format) .blockWidth ≡ 0
+  pub height : copySize .height .0 % formatOf (t .format) .blockHeight ≡ 0
 
 -- ---- "validating GPUTexelCopyTextureInfo"
 
@@ -93,12 +93,12 @@ pub data Reading : Type 0 where
 
 abbrev pub IsWhole : Reading → Extent3d → Extent3d → Type 0
 IsWhole WithLayers size copySize = size ≡ copySize
-IsWhole OneLayer size copySize = (size .width ≡ copySize .width) × (size .height ≡ copySize .height)
+IsWhole OneLayer size copySize = (size .width .0 ≡ copySize .width .0) × (size .height .0 ≡ copySize .height .0)
 
 pub record TexelCopyTexture (reading : Reading) (t : Texture) (view : TexelCopyTextureInfo) (copySize : Extent3d) : Type 0 where
   pub level : view .«mip_level» < t .«mip_level_count»
-  pub x-aligned : view .origin .x % formatOf (t .format) .blockWidth ≡ 0
-  pub y-aligned : view .origin .y % formatOf (t .format) .blockHeight ≡ 0
+  pub x-aligned : view .origin .x .0 % formatOf (t .format) .blockWidth ≡ 0
+  pub y-aligned : view .origin .y .0 % formatOf (t .format) .blockHeight ≡ 0
   pub whole : CopiedWhole t → IsWhole reading (physicalSubresourceSize t (view .«mip_level»)) copySize
   pub range : TextureCopyRange t view copySize
 
@@ -174,7 +174,7 @@ pub record TextureBufferCopy (reads aligned : Bool) (t : Texture) (aspect : Text
 -- linear texture data of a copy's box, in whole blocks of the format
 abbrev pub LinearBox : Texture → TextureAspect → TexelCopyBufferLayout → Extent3d → ℕ → Type 0
 LinearBox t aspect layout copySize byteSize =
-    LinearTextureData layout (copySize .width / formatOf (t .format) .blockWidth) (copySize .height / formatOf (t .format) .blockHeight)
+    LinearTextureData layout (copySize .width .0 / formatOf (t .format) .blockWidth) (copySize .height .0 / formatOf (t .format) .blockHeight)
     (blockBytes (t .format) aspect) (copySize .«depth_or_array_layers») byteSize
 
 -- `reads` where the texture is read: texture to buffer

@@ -9,6 +9,7 @@ use lib.Dec.{eqb}
 use borrow.Author.Tests.{eqb-true, eq-eqb, not-false}
 use Rattle.conditions.specs.Conditions.{pick}
 use Rattle.conditions.proofs.Rules.{not-yes, not-no, not-both}
+use Rattle.measures.specs.declared.Texels.{Texels}
 use Rattle.measures.specs.declared.Extent3d.{Extent3d}
 use Rattle.refusals.specs.declared.CopySide.the-variants.{Source, Destination}
 use Rattle.refusals.specs.declared.TransferError.{TransferError}
@@ -76,15 +77,15 @@ equal-by a b h = not-no _ (eq-eqb a b h)
 
 -- ---- 9 against the plane
 
-partly : {start size limit : ℕ} → start + size ≤ limit → Run false start size limit
+partly : {start size limit : Texels} → start .0 + size .0 ≤ limit .0 → Run false start size limit
 partly h = record { inside = h; whole = λ e. let z : _≡_ {A = ℕ} 0 1 = cc in absurd (omega arith) }
 
 module _ (src : TextureSide) (size : Extent3d) where
   abbrev InsideX : Type 0
-  InsideX = src .view .origin .x + size .width ≤ planeWidth src
+  InsideX = src .view .origin .x .0 + size .width .0 ≤ planeWidth src .0
 
   abbrev InsideY : Type 0
-  InsideY = src .view .origin .y + size .height ≤ planeHeight src
+  InsideY = src .view .origin .y .0 + size .height .0 ≤ planeHeight src .0
 
   plane-of : flatten (planeChecks src size) ≡ [] → InsideX × InsideY
   unfolding planeChecks

@@ -8,7 +8,7 @@ use native.Mathlib.Omega.{arith}
 use borrow.Author.Tests.{not-true, not-false}
 use Rattle.conditions.specs.Conditions.{pick}
 use Rattle.measures.specs.declared.Extent3d.{Extent3d}
-use Rattle.measures.specs.Measure.{physicalSize}
+use Rattle.measures.specs.Measure.{physicalSize, roundUp}
 use Rattle.formats.specs.declared.TextureAspect.{TextureAspect}
 use Rattle.formats.specs.declared.TextureAspect.the-variants.{All, StencilOnly, DepthOnly, Plane0, Plane1, Plane2}
 use Rattle.formats.specs.Aspects.{subsamplingFactor}
@@ -80,7 +80,7 @@ few D3 n h = omega arith
 pub layers-few :
     (r : RangeChecked) (view : TexelCopyTextureInfo) (t : Texture) (side : CopySide) (size : Extent3d) (v : CopyExtent) (n : ℕ)
     → textureInBounds t ≡ true → r ≡ rangeChecked view t side size → r ≡ R.GoOn v n → n < 2 ^ 16
-unfolding arrayLayerCount physicalExtent physicalSize
+unfolding arrayLayerCount physicalExtent roundUp physicalSize
 layers-few r view t side size v n bound p q =
     let l = range-went view t side size v n (sym p ∙ q) in
     let deep = texture-laws t bound .level-sized (view .«mip_level») .depth-few in

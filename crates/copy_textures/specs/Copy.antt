@@ -1,10 +1,12 @@
 -- A copy between textures, and what of it the checks and the plan speak of.
-use Prim.Native.Nat.{ℕ, _/_}
+use Prim.Native.Nat.{ℕ}
 use mathlib.Core.Bool.{Bool, false, not}
 use lib.Dec.{eqb}
+use Rattle.measures.specs.declared.Texels.{Texels}
 use Rattle.measures.specs.declared.Extent3d.{Extent3d}
 use Rattle.measures.specs.declared.OptionU32.{OptionU32}
 use Rattle.measures.specs.declared.OptionU32.the-variants as O
+use Rattle.measures.specs.Measure.{dividedBy}
 use Rattle.formats.specs.Table.{aspectsOf, removeSrgb}
 use Rattle.formats.specs.Aspects.{chosenAspects, aspectSpecificFormat, subsamplingFactor}
 use Rattle.records.specs.Extents.{logicalExtent}
@@ -44,11 +46,11 @@ unfoldable pub formatsDiffer : TextureSide → TextureSide → Bool
 formatsDiffer src dst = not (eqb (removeSrgb (src .texture .format)) (removeSrgb (dst .texture .format)))
 
 -- the side of a plane's level
-unfoldable pub planeWidth : TextureSide → ℕ
-planeWidth src = logicalExtent (src .texture) (src .view .«mip_level») .width / subsamplingFactor (src .view .aspect)
+unfoldable pub planeWidth : TextureSide → Texels
+planeWidth src = dividedBy (logicalExtent (src .texture) (src .view .«mip_level») .width) (subsamplingFactor (src .view .aspect))
 
-unfoldable pub planeHeight : TextureSide → ℕ
-planeHeight src = logicalExtent (src .texture) (src .view .«mip_level») .height / subsamplingFactor (src .view .aspect)
+unfoldable pub planeHeight : TextureSide → Texels
+planeHeight src = dividedBy (logicalExtent (src .texture) (src .view .«mip_level») .height) (subsamplingFactor (src .view .aspect))
 
 -- the aspects that a side chooses, and whether its format has more
 abbrev pub chosen : TextureSide → ℕ

@@ -24,8 +24,8 @@ pub record Accepted (c : BetweenTextures) : Type 0 where
   -- each range lies inside its texture, and inside the plane that is split off
   pub src-range : RangeLaws (c .src .view) (c .src .texture) (c .size)
   pub dst-range : RangeLaws (c .dst .view) (c .dst .texture) (c .size)
-  pub plane-x : splits c ≡ true → c .src .view .origin .x + c .size .width ≤ planeWidth (c .src)
-  pub plane-y : splits c ≡ true → c .src .view .origin .y + c .size .height ≤ planeHeight (c .src)
+  pub plane-x : splits c ≡ true → c .src .view .origin .x .0 + c .size .width .0 ≤ planeWidth (c .src) .0
+  pub plane-y : splits c ≡ true → c .src .view .origin .y .0 + c .size .height .0 ≤ planeHeight (c .src) .0
   -- within one texture they are apart
   pub apart : isOneTexture c ≡ true → overlaps (c .src .view) (c .dst .view) (c .src .texture .format) (layers c) ≡ false
   -- each side chooses aspects, and but for the split all that its format has

@@ -5,6 +5,7 @@ use mathlib.Core.Bool.{Bool, false, _&&_, not}
 use mathlib.Core.List.{[], _∷_, flatten}
 use lib.Dec.{eqb}
 use Rattle.conditions.specs.Conditions.{pick, stop-if, _$_}
+use Rattle.measures.specs.declared.Texels.{Texels}
 use Rattle.measures.specs.declared.Extent3d.{Extent3d}
 use Rattle.flags.specs.TextureUsages as TextureUsages
 use Rattle.flags.specs.Flags.{contains}
@@ -27,7 +28,7 @@ use Rattle.copy_textures.specs.Copy.{isPlaneSplit, formatsDiffer}
 use Rattle.copy_textures.specs.Plan.{planeChecks}
 
 -- 9 against a plane of these sides
-unfoldable pub planeSides : TextureSide → Extent3d → ℕ → ℕ → Checks
+unfoldable pub planeSides : TextureSide → Extent3d → Texels → Texels → Checks
 planeSides src size width height =
     flatten (dimensionChecks (subjectOf (src .texture) Source) X (src .view .origin .x) (size .width) width false)
     ∷ flatten (dimensionChecks (subjectOf (src .texture) Source) Y (src .view .origin .y) (size .height) height false)

@@ -1,7 +1,8 @@
 // `copy_texture_to_texture` of command/transfer.rs, as a plan.
 ghost use mathlib.Core.Path.{_≡_};
 ghost use mathlib.Core.Bool.{true, false, _&&_, not};
-ghost use Prim.Native.Nat.{_/_, _<_, _^_};
+ghost use Prim.Native.Nat.{_<_, _^_};
+ghost use Rattle.measures.specs.Measure.{dividedBy};
 ghost use lib.Dec.{eqb};
 ghost use Rattle.formats.specs.Table.{aspectsOf};
 ghost use Rattle.formats.specs.Aspects.{subsamplingFactor};
@@ -18,6 +19,7 @@ use flags::TextureUsages;
 use formats::TextureAspect;
 use measures::Extent3d;
 use measures::OptionU32;
+use measures::Texels;
 use plan_textures::TexturePlan;
 use records::TexelCopyTextureInfo;
 use records::Texture;
@@ -81,31 +83,33 @@ fn is_incompatible(split: bool, src: TextureSide, dst: TextureSide) -> bool
     conditions::both(formats_differ(src, dst), !split)
 }
 
-fn plane_side(n: u32, aspect: TextureAspect) -> u32
-    ensures { λ r. ⌜ r ≡ n / subsamplingFactor aspect ⌝ }
+fn plane_side(n: Texels, aspect: TextureAspect) -> Texels
+    ensures { λ r. ⌜ r ≡ dividedBy n (subsamplingFactor aspect) ⌝ }
 {
     let factor = formats::subsampling_factor(aspect);
-    n / factor
+    n.divided_by(factor)
 }
 
-fn plane_width(src: TextureSide) -> u32
+fn plane_width(src: TextureSide) -> Texels
     ensures { λ r. ⌜ r ≡ planeWidth src ⌝ }
 {
     let texture = src.texture;
     let view = src.view;
     let aspect = view.aspect;
     let extent = records::logical_extent(texture, view.mip_level);
-    plane_side(extent.width, aspect)
+    let width = extent.width;
+    plane_side(width, aspect)
 }
 
-fn plane_height(src: TextureSide) -> u32
+fn plane_height(src: TextureSide) -> Texels
     ensures { λ r. ⌜ r ≡ planeHeight src ⌝ }
 {
     let texture = src.texture;
     let view = src.view;
     let aspect = view.aspect;
     let extent = records::logical_extent(texture, view.mip_level);
-    plane_side(extent.height, aspect)
+    let height = extent.height;
+    plane_side(height, aspect)
 }
 
 fn source_of(t: Texture) -> Subject
@@ -121,9 +125,9 @@ fn source_of(t: Texture) -> Subject
 fn check_plane_side(
     src: TextureSide,
     dimension: TextureErrorDimension,
-    start: u32,
-    size: u32,
-    limit: u32,
+    start: Texels,
+    size: Texels,
+    limit: Texels,
 ) -> Checked
     ensures { λ r. ⌜ r ≡ checked (dimensionChecks (subjectOf (src .texture) CopySide.Source) dimension start size limit false) ⌝ }
 {
@@ -131,17 +135,21 @@ fn check_plane_side(
     rule_copy_range::check_dimension(source_of(texture), dimension, start, size, limit, false)
 }
 
-fn check_plane_sides(src: TextureSide, size: Extent3d, width: u32, height: u32) -> Checked
+fn check_plane_sides(src: TextureSide, size: Extent3d, width: Texels, height: Texels) -> Checked
     ensures { λ r. ⌜ r ≡ checked (planeSides src size width height) ⌝ }
 {
     let view = src.view;
     let origin = view.origin;
-    let x = check_plane_side(src, TextureErrorDimension::X, origin.x, size.width, width);
-    if let Checked::Refused(why) = x {
+    let x = origin.x;
+    let copy_width = size.width;
+    let on_x = check_plane_side(src, TextureErrorDimension::X, x, copy_width, width);
+    if let Checked::Refused(why) = on_x {
         return Checked::Refused(why);
     }
-    let y = check_plane_side(src, TextureErrorDimension::Y, origin.y, size.height, height);
-    if let Checked::Refused(why) = y {
+    let y = origin.y;
+    let copy_height = size.height;
+    let on_y = check_plane_side(src, TextureErrorDimension::Y, y, copy_height, height);
+    if let Checked::Refused(why) = on_y {
         return Checked::Refused(why);
     }
     Checked::GoOn

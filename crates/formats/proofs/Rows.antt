@@ -15,7 +15,7 @@ use Rattle.measures.specs.declared.OptionU32.the-variants.{Given, Absent}
 use Rattle.measures.specs.Measure.{orElse}
 use Rattle.formats.specs.declared.FormatRow.{FormatRow}
 use Rattle.formats.specs.declared.TextureAspect.{TextureAspect}
-use Rattle.formats.specs.Table.{formats, unknown, formatRow, blockWidth, blockHeight, aspectsOf, none}
+use Rattle.formats.specs.Table.{formats, unknown, formatRow, blockWidth, blockHeight, aspectsOf, none, blockDimensions}
 use Rattle.formats.specs.Aspects.{askedOf, bytesOf, blockCopySize, chosenAspects, unlessNone}
 use Rattle.formats.specs.Laws.{EveryFormat, maxBlockSide, maxBlockBytes}
 
@@ -98,7 +98,7 @@ given bytes n = go (eqb bytes 0) refl
     go false q e = (pos-of-ne-zero (eqb-false _ _ q), cc)
 
 pub every-format : EveryFormat
-unfolding blockWidth blockHeight blockCopySize
+unfolding blockDimensions blockCopySize
 every-format format =
     let s = row-sound format in
     record {

@@ -6,6 +6,8 @@ use lib.Bits.{bitOr}
 use lib.Dec.{eqb, leb, ltb}
 use lib.ListN.{getD, length}
 use Rattle.flags.specs.FormatAspects.{COLOR, DEPTH, STENCIL, DEPTH-STENCIL, PLANE-0, PLANE-1}
+use Rattle.measures.specs.declared.BlockDimensions.{BlockDimensions}
+use Rattle.measures.specs.Measure.{texels}
 use Rattle.formats.specs.declared.FormatRow.{FormatRow}
 
 -- the bytes of a block where an aspect has none that can be copied, or is not there
@@ -105,11 +107,18 @@ formatRow format = getD formats format unknown
 unfoldable pub isFormat : ℕ → Bool
 isFormat format = ltb format (length formats)
 
-unfoldable pub blockWidth : ℕ → ℕ
-blockWidth format = formatRow format .«block_width»
+-- the sides of a block
+abbrev pub blockOf : FormatRow → BlockDimensions
+blockOf r = record { width = texels (r .«block_width»); height = texels (r .«block_height») }
 
-unfoldable pub blockHeight : ℕ → ℕ
-blockHeight format = formatRow format .«block_height»
+unfoldable pub blockDimensions : ℕ → BlockDimensions
+blockDimensions format = blockOf (formatRow format)
+
+abbrev pub blockWidth : ℕ → ℕ
+blockWidth format = blockDimensions format .width .0
+
+abbrev pub blockHeight : ℕ → ℕ
+blockHeight format = blockDimensions format .height .0
 
 -- the bits of the aspects that a format has
 unfoldable pub aspectsOf : ℕ → ℕ

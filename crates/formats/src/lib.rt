@@ -1,13 +1,16 @@
 // The texture formats by their numbers: blocks, bytes, aspects, planes and srgb pairs.
 ghost use mathlib.Core.Path.{_≡_};
 ghost use mathlib.Core.Bool.{true};
+ghost use Prim.Native.Nat.{_≤_, _<_};
 ghost use Rattle.flags.specs.FormatAspects.{COLOR};
 ghost use Rattle.measures.specs.Measure.{orElse};
-ghost use Rattle.formats.specs.Table.{color as colorRow, depthStencil, planar as planarRow, formatRow, isFormat, blockWidth, blockHeight, aspectsOf, isDepthStencil, isCombinedDepthStencil, removeSrgb, isMultiPlanar};
+ghost use Rattle.formats.specs.Table.{color as colorRow, depthStencil, planar as planarRow, formatRow, isFormat, blockDimensions, aspectsOf, isDepthStencil, isCombinedDepthStencil, removeSrgb, isMultiPlanar};
 ghost use Rattle.formats.specs.Aspects.{aspectOf, askedOf, chosenAspects, bytesOf, blockCopySize, planeFormat, aspectSpecificFormat, subsamplingFactor};
-ghost use Rattle.formats.specs.Laws.{EveryFormat};
+ghost use Rattle.formats.specs.Laws.{EveryFormat, maxBlockSide};
 use flags::FormatAspects;
+use measures::BlockDimensions;
 use measures::OptionU32;
+use measures::Texels;
 
 // How many formats the table has.
 const FORMAT_COUNT: u32 = 22;
@@ -40,11 +43,6 @@ pub enum TextureAspect {
     Plane0,
     Plane1,
     Plane2,
-}
-
-pub struct BlockDimensions {
-    pub width: u32,
-    pub height: u32,
 }
 
 // One format: its block's sides, whether it is an srgb, its aspects, and the bytes of a block of each.
@@ -147,12 +145,13 @@ pub fn is_format(format: u32) -> bool
 }
 
 pub fn block_dimensions(format: u32) -> BlockDimensions
-    ensures { λ r. ⌜ (r .width ≡ blockWidth format) × (r .height ≡ blockHeight format) ⌝ }
+    ensures { λ r. ⌜ r ≡ blockDimensions format ⌝ }
+    ensures sides { λ r. ⌜ (0 < r .width .0) × (r .width .0 ≤ maxBlockSide) × (0 < r .height .0) × (r .height .0 ≤ maxBlockSide) ⌝ }
 {
     let row = format_row(format);
     BlockDimensions {
-        width: row.block_width,
-        height: row.block_height,
+        width: Texels(row.block_width),
+        height: Texels(row.block_height),
     }
 }
 

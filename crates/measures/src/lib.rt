@@ -1,21 +1,22 @@
 // Texels and blocks, extents and origins, and the values that may be absent.
 ghost use mathlib.Core.Path.{_≡_};
 ghost use Prim.Native.Nat.{_+_, _<_, _≤_, _^_};
-ghost use Rattle.measures.specs.Measure.{orElse, multiple, blocksOf, roundedUp, physicalSize, isEmpty};
+ghost use Rattle.measures.specs.Measure.{orElse, multiple, inBlocks, lesserOf, dividedBy, roundUp, physicalSize, isEmpty};
 ghost use Rattle.measures.specs.Laws.{EveryBlockSize};
 
 // Texels along one side.
 pub struct Texels(pub u32);
 
-// Texel blocks along one side. Never compared with `Texels`: `Texels::in_blocks` joins the two.
+// Texel blocks along one side: rows or columns. No function takes them for texels; `Texels::in_blocks` joins the two.
 pub struct Blocks(pub u32);
 
 impl Texels {
-    // How many blocks of `size` texels hold these.
-    pub fn in_blocks(self, size: u32) -> Blocks
-        requires { ⌜ 0 < size ⌝ }
-        ensures { λ r. ⌜ r .0 ≡ blocksOf (self .0) size ⌝ }
+    // How many blocks of a side hold these.
+    pub fn in_blocks(self, side: Texels) -> Blocks
+        requires { ⌜ 0 < side .0 ⌝ }
+        ensures { λ r. ⌜ r ≡ inBlocks self side ⌝ }
     {
+        let size = side.0;
         // nearly every block is one texel, and a division takes long
         if size == 1 {
             return Blocks(self.0);
@@ -28,11 +29,39 @@ impl Texels {
         }
     }
 
-    // These rounded up to whole blocks.
-    pub fn rounded_up(self, size: u32) -> Texels
-        requires { ⌜ (0 < size) × (self .0 + size ≤ 2 ^ 32) ⌝ }
-        ensures { λ r. ⌜ r .0 ≡ roundedUp (self .0) size ⌝ }
+    // Whether these are whole blocks of a side.
+    pub fn is_multiple_of(self, side: Texels) -> bool
+        requires { ⌜ 0 < side .0 ⌝ }
+        ensures { λ r. ⌜ r ≡ multiple (self .0) (side .0) ⌝ }
     {
+        let size = side.0;
+        if size == 1 {
+            return true;
+        }
+        self.0 % size == 0
+    }
+
+    // The lesser of two.
+    pub fn min(self, other: Texels) -> Texels
+        ensures { λ r. ⌜ r ≡ lesserOf self other ⌝ }
+    {
+        if self.0 < other.0 { self } else { other }
+    }
+
+    // These divided by a factor, rounded down.
+    pub fn divided_by(self, factor: u32) -> Texels
+        requires { ⌜ 0 < factor ⌝ }
+        ensures { λ r. ⌜ r ≡ dividedBy self factor ⌝ }
+    {
+        Texels(self.0 / factor)
+    }
+
+    // These rounded up to whole blocks of a side.
+    fn rounded_up(self, side: Texels) -> Texels
+        requires { ⌜ (0 < side .0) × (self .0 + side .0 ≤ 2 ^ 32) ⌝ }
+        ensures { λ r. ⌜ r ≡ roundUp self side ⌝ }
+    {
+        let size = side.0;
         if size == 1 {
             return self;
         }
@@ -40,17 +69,23 @@ impl Texels {
     }
 }
 
-// Sizes in texels; the third counts depth slices in 3D and array layers in 2D.
+// Sizes: width and height in texels; the third counts depth slices in 3D and array layers in 2D, which have no blocks.
 pub struct Extent3d {
-    pub width: u32,
-    pub height: u32,
+    pub width: Texels,
+    pub height: Texels,
     pub depth_or_array_layers: u32,
 }
 
 pub struct Origin3d {
-    pub x: u32,
-    pub y: u32,
+    pub x: Texels,
+    pub y: Texels,
     pub z: u32,
+}
+
+// The sides of a block.
+pub struct BlockDimensions {
+    pub width: Texels,
+    pub height: Texels,
 }
 
 // A number that a copy may leave out.
@@ -80,26 +115,16 @@ pub fn or_else(value: OptionU32, other: u64) -> u64
     }
 }
 
-pub fn is_multiple_of(n: u32, m: u32) -> bool
-    requires { ⌜ 0 < m ⌝ }
-    ensures { λ r. ⌜ r ≡ multiple n m ⌝ }
-{
-    if m == 1 {
-        return true;
-    }
-    n % m == 0
-}
-
 // Width and height rounded up to whole blocks.
-pub fn physical_size(e: Extent3d, block_width: u32, block_height: u32) -> Extent3d
-    requires { ⌜ (0 < «block_width») × (e .width + «block_width» ≤ 2 ^ 32) × (0 < «block_height») × (e .height + «block_height» ≤ 2 ^ 32) ⌝ }
-    ensures { λ r. ⌜ r ≡ physicalSize e «block_width» «block_height» ⌝ }
+pub fn physical_size(e: Extent3d, block: BlockDimensions) -> Extent3d
+    requires { ⌜ (0 < block .width .0) × (e .width .0 + block .width .0 ≤ 2 ^ 32) × (0 < block .height .0) × (e .height .0 + block .height .0 ≤ 2 ^ 32) ⌝ }
+    ensures { λ r. ⌜ r ≡ physicalSize e block ⌝ }
 {
-    let width = Texels(e.width).rounded_up(block_width);
-    let height = Texels(e.height).rounded_up(block_height);
+    let width = Texels(e.width.0).rounded_up(Texels(block.width.0));
+    let height = Texels(e.height.0).rounded_up(Texels(block.height.0));
     Extent3d {
-        width: width.0,
-        height: height.0,
+        width,
+        height,
         depth_or_array_layers: e.depth_or_array_layers,
     }
 }
@@ -109,8 +134,8 @@ pub fn is_empty(size: Extent3d) -> bool
     ensures { λ r. ⌜ r ≡ isEmpty size ⌝ }
 {
     conditions::either(
-        size.width == 0,
-        conditions::either(size.height == 0, size.depth_or_array_layers == 0),
+        size.width.0 == 0,
+        conditions::either(size.height.0 == 0, size.depth_or_array_layers == 0),
     )
 }
 

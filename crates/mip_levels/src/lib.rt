@@ -2,9 +2,10 @@
 ghost use mathlib.Core.Path.{_≡_};
 ghost use mathlib.Core.Bool.{_&&_};
 ghost use lib.Dec.{leb};
-ghost use Rattle.mip_levels.specs.Level.{textureDimension, sideAt, mipLevelSize, maxMipLevels};
+ghost use Rattle.mip_levels.specs.Level.{textureDimension, sideAt, texelsAt, mipLevelSize, maxMipLevels};
 ghost use Rattle.mip_levels.specs.Laws.{LevelLaws};
 use measures::Extent3d;
+use measures::Texels;
 
 pub enum TextureDimension {
     D1,
@@ -37,17 +38,23 @@ fn side_at(n: u32, level: u32) -> u32
     if halved == 0 { 1 } else { halved }
 }
 
+fn texels_at(n: Texels, level: u32) -> Texels
+    ensures { λ r. ⌜ r ≡ texelsAt n level ⌝ }
+{
+    Texels(side_at(n.0, level))
+}
+
 // The logical extent of a level.
 pub fn mip_level_size(dimension: TextureDimension, size: Extent3d, level: u32) -> Extent3d
     ensures { λ r. ⌜ r ≡ mipLevelSize dimension size level ⌝ }
 {
-    let width = side_at(size.width, level);
-    let height = side_at(size.height, level);
+    let width = texels_at(Texels(size.width.0), level);
+    let height = texels_at(Texels(size.height.0), level);
     let depth = side_at(size.depth_or_array_layers, level);
     match dimension {
         TextureDimension::D1 => Extent3d {
             width,
-            height: 1,
+            height: Texels(1),
             depth_or_array_layers: 1,
         },
         TextureDimension::D2 => Extent3d {

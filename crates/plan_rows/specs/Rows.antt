@@ -30,10 +30,10 @@ bufferCopyNumbers r = r .«src_offset» ∷ r .«dst_offset» ∷ r .size ∷ []
 
 -- level, layer, x, y, z, aspect bits
 abbrev pub baseNumbers : TextureCopyBase → List ℕ
-baseNumbers b = b .«mip_level» ∷ b .«array_layer» ∷ b .origin .x ∷ b .origin .y ∷ b .origin .z ∷ b .aspect .0 ∷ []
+baseNumbers b = b .«mip_level» ∷ b .«array_layer» ∷ b .origin .x .0 ∷ b .origin .y .0 ∷ b .origin .z ∷ b .aspect .0 ∷ []
 
 abbrev pub sizeNumbers : CopyExtent → List ℕ
-sizeNumbers e = e .width ∷ e .height ∷ e .depth ∷ []
+sizeNumbers e = e .width .0 ∷ e .height .0 ∷ e .depth ∷ []
 
 -- offset, bytes, rows, the texture's place, size
 unfoldable pub bufferTextureCopyNumbers : BufferTextureCopy → List ℕ

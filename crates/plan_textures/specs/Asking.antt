@@ -1,7 +1,8 @@
 -- Asking a plan of a copy between textures for its next region.
-use Prim.Native.Nat.{ℕ, _-_, _/_}
+use Prim.Native.Nat.{ℕ, _-_}
 use lib.Dec.{eqb}
 use Rattle.conditions.specs.Conditions.{pick, stop-if, _$_}
+use Rattle.measures.specs.Measure.{dividedBy}
 use Rattle.flags.specs.FormatAspects.{DEPTH, STENCIL, PLANE-0, PLANE-1}
 use Rattle.rule_copy_range.specs.declared.CopyExtent.{CopyExtent}
 use Rattle.rule_selectors.specs.declared.TextureCopyBase.{TextureCopyBase}
@@ -19,12 +20,12 @@ baseAs b aspects factor =
     record {
       «mip_level» = b .«mip_level»;
       «array_layer» = b .«array_layer»;
-      origin = record { x = b .origin .x / factor; y = b .origin .y / factor; z = b .origin .z };
+      origin = record { x = dividedBy (b .origin .x) factor; y = dividedBy (b .origin .y) factor; z = b .origin .z };
       aspect = record { 0 = aspects };
     }
 
 unfoldable pub sizeBy : CopyExtent → ℕ → CopyExtent
-sizeBy e factor = record { width = e .width / factor; height = e .height / factor; depth = e .depth }
+sizeBy e factor = record { width = dividedBy (e .width) factor; height = dividedBy (e .height) factor; depth = e .depth }
 
 -- both sides with one part's aspects, halved downwards for plane 1
 unfoldable pub regionAs : TexturePlan → ℕ → ℕ → TextureCopy

@@ -8,7 +8,7 @@ use Rattle.rule_copy_range.specs.declared.CopyExtent.{CopyExtent}
 use Rattle.rule_selectors.specs.declared.TextureCopyBase.{TextureCopyBase}
 use Rattle.rule_init_ranges.specs.declared.TextureInitRange.{TextureInitRange}
 use Rattle.rule_init_ranges.specs.Init.{srcTextureRange, dstTextureRange}
-use Rattle.measures.specs.Measure.{isEmpty}
+use Rattle.measures.specs.Measure.{lesserOf, isEmpty}
 use Rattle.records.specs.declared.TextureSide.{TextureSide}
 use Rattle.plan_textures.specs.declared.CopyParts.{CopyParts}
 use Rattle.plan_textures.specs.declared.CopyParts.the-variants.{Whole, DepthStencil, Planes}
@@ -18,7 +18,7 @@ use Rattle.plan_textures.specs.declared.TexturePlan.{TexturePlan}
 
 -- each size is the lesser of both sides
 unfoldable pub lesser : CopyExtent → CopyExtent → CopyExtent
-lesser a b = record { width = min (a .width) (b .width); height = min (a .height) (b .height); depth = min (a .depth) (b .depth) }
+lesser a b = record { width = lesserOf (a .width) (b .width); height = lesserOf (a .height) (b .height); depth = min (a .depth) (b .depth) }
 
 -- a combined depth-stencil format is copied as depth, then stencil; a planar one as plane 0, then plane 1
 unfoldable pub partsOf : ℕ → CopyParts

@@ -67,9 +67,15 @@ fn least(a: u32, b: u32) -> u32
 fn lesser_of(a: CopyExtent, b: CopyExtent) -> CopyExtent
     ensures { λ r. ⌜ r ≡ lesser a b ⌝ }
 {
+    let a_width = a.width;
+    let b_width = b.width;
+    let a_height = a.height;
+    let b_height = b.height;
+    let width = a_width.min(b_width);
+    let height = a_height.min(b_height);
     CopyExtent {
-        width: least(a.width, b.width),
-        height: least(a.height, b.height),
+        width,
+        height,
         depth: least(a.depth, b.depth),
     }
 }
@@ -166,9 +172,11 @@ fn base_as(b: TextureCopyBase, aspects: u32, factor: u32) -> TextureCopyBase
     ensures { λ r. ⌜ r ≡ baseAs b aspects factor ⌝ }
 {
     let origin = b.origin;
+    let x = origin.x;
+    let y = origin.y;
     let start = Origin3d {
-        x: origin.x / factor,
-        y: origin.y / factor,
+        x: x.divided_by(factor),
+        y: y.divided_by(factor),
         z: origin.z,
     };
     TextureCopyBase {
@@ -183,9 +191,11 @@ fn size_by(e: CopyExtent, factor: u32) -> CopyExtent
     requires { ⌜ 0 < factor ⌝ }
     ensures { λ r. ⌜ r ≡ sizeBy e factor ⌝ }
 {
+    let width = e.width;
+    let height = e.height;
     CopyExtent {
-        width: e.width / factor,
-        height: e.height / factor,
+        width: width.divided_by(factor),
+        height: height.divided_by(factor),
         depth: e.depth,
     }
 }

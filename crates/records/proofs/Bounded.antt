@@ -13,7 +13,7 @@ use Rattle.measures.specs.declared.Extent3d.{Extent3d}
 use Rattle.measures.specs.Measure.{multiple}
 use Rattle.mip_levels.specs.declared.TextureDimension.{TextureDimension}
 use Rattle.mip_levels.specs.declared.TextureDimension.the-variants.{D1, D2, D3}
-use Rattle.mip_levels.specs.Level.{textureDimension, mipLevelSize}
+use Rattle.mip_levels.specs.Level.{textureDimension, mipLevelSize, texelsAt}
 use Rattle.mip_levels.proofs.Halving.{level-laws}
 use Rattle.formats.specs.Table.{isFormat, blockWidth, blockHeight}
 use Rattle.records.specs.declared.Buffer.{Buffer}
@@ -30,9 +30,9 @@ is-within least n most e = let p = both-true _ _ e in (leb-true _ _ (p .0), leb-
 -- a side, and a depth or a count of layers, within limits that are within the largest
 spread :
     (side depth : ℕ) (e : Extent3d) → side ≤ maxSide → depth ≤ maxSide3d
-    → every (within 1 (e .width) side ∷ within 1 (e .height) side ∷ within 1 (e .«depth_or_array_layers») depth ∷ []) ≡ true → Sized e
+    → every (within 1 (e .width .0) side ∷ within 1 (e .height .0) side ∷ within 1 (e .«depth_or_array_layers») depth ∷ []) ≡ true → Sized e
 spread side depth e s d b =
-    let t = all-true (within 1 (e .width) side ∷ within 1 (e .height) side ∷ within 1 (e .«depth_or_array_layers») depth ∷ []) b in
+    let t = all-true (within 1 (e .width .0) side ∷ within 1 (e .height .0) side ∷ within 1 (e .«depth_or_array_layers») depth ∷ []) b in
     let w = is-within _ _ _ (t .0) in
     let h = is-within _ _ _ (t .1 .0) in
     let l = is-within _ _ _ (t .1 .1 .0) in
@@ -48,9 +48,9 @@ spread side depth e s d b =
 sized : (d : TextureDimension) (e : Extent3d) → sizeInBounds d e ≡ true → Sized e
 unfolding sizeInBounds
 sized D1 e b =
-    let t = all-true (within 1 (e .width) maxSide ∷ eqb (e .height) 1 ∷ eqb (e .«depth_or_array_layers») 1 ∷ []) b in
+    let t = all-true (within 1 (e .width .0) maxSide ∷ eqb (e .height .0) 1 ∷ eqb (e .«depth_or_array_layers») 1 ∷ []) b in
     let w = is-within _ _ _ (t .0) in
-    let h : e .height ≡ 1 = eqb-true _ _ (t .1 .0) in
+    let h : e .height .0 ≡ 1 = eqb-true _ _ (t .1 .0) in
     let l : e .«depth_or_array_layers» ≡ 1 = eqb-true _ _ (t .1 .1 .0) in
     record {
       width-some = w .0;
@@ -72,11 +72,11 @@ mip-side D3 e s = omega arith
 
 -- a level of it is no larger, and has texels
 level-sized : (d : TextureDimension) (e : Extent3d) (level : ℕ) → Sized e → Sized (mipLevelSize d e level)
-unfolding mipLevelSize
+unfolding texelsAt mipLevelSize
 level-sized D1 e level s =
-    let w = level-laws .fewer (e .width) level (s .width-some) in
+    let w = level-laws .fewer (e .width .0) level (s .width-some) in
     record {
-      width-some = level-laws .some (e .width) level;
+      width-some = level-laws .some (e .width .0) level;
       width-few = omega arith;
       height-some = omega arith;
       height-few = omega arith;
@@ -84,24 +84,24 @@ level-sized D1 e level s =
       depth-few = omega arith;
     }
 level-sized D2 e level s =
-    let w = level-laws .fewer (e .width) level (s .width-some) in
-    let h = level-laws .fewer (e .height) level (s .height-some) in
+    let w = level-laws .fewer (e .width .0) level (s .width-some) in
+    let h = level-laws .fewer (e .height .0) level (s .height-some) in
     record {
-      width-some = level-laws .some (e .width) level;
+      width-some = level-laws .some (e .width .0) level;
       width-few = omega arith;
-      height-some = level-laws .some (e .height) level;
+      height-some = level-laws .some (e .height .0) level;
       height-few = omega arith;
       depth-some = s .depth-some;
       depth-few = s .depth-few;
     }
 level-sized D3 e level s =
-    let w = level-laws .fewer (e .width) level (s .width-some) in
-    let h = level-laws .fewer (e .height) level (s .height-some) in
+    let w = level-laws .fewer (e .width .0) level (s .width-some) in
+    let h = level-laws .fewer (e .height .0) level (s .height-some) in
     let d = level-laws .fewer (e .«depth_or_array_layers») level (s .depth-some) in
     record {
-      width-some = level-laws .some (e .width) level;
+      width-some = level-laws .some (e .width .0) level;
       width-few = omega arith;
-      height-some = level-laws .some (e .height) level;
+      height-some = level-laws .some (e .height .0) level;
       height-few = omega arith;
       depth-some = level-laws .some (e .«depth_or_array_layers») level;
       depth-few = omega arith;
@@ -132,7 +132,7 @@ passed t b =
     record { size = fields .1 .1 .0; levels = fields .1 .1 .1 .0; sides = suits .1 .0 }
 
 -- whole blocks on both sides
-whole : (format : ℕ) (e : Extent3d) → sidesWhole format e ≡ true → (e .width % blockWidth format ≡ 0) × (e .height % blockHeight format ≡ 0)
+whole : (format : ℕ) (e : Extent3d) → sidesWhole format e ≡ true → (e .width .0 % blockWidth format ≡ 0) × (e .height .0 % blockHeight format ≡ 0)
 unfolding sidesWhole multiple
 whole format e b = let p = both-true _ _ b in (eqb-true _ _ (p .0), eqb-true _ _ (p .1))
 

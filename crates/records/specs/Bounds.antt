@@ -28,15 +28,15 @@ bufferInBounds b = leb (b .size) maxBufferSize && leb (b .usage .0) maxBufferUsa
 
 -- 1D: width 1 to 8,192, others 1. 2D: sides 1 to 8,192, layers 1 to 256. 3D: sides 1 to 2,048.
 unfoldable pub sizeInBounds : TextureDimension → Extent3d → Bool
-sizeInBounds D1 e = every (within 1 (e .width) maxSide ∷ eqb (e .height) 1 ∷ eqb (e .«depth_or_array_layers») 1 ∷ [])
-sizeInBounds D2 e = every (within 1 (e .width) maxSide ∷ within 1 (e .height) maxSide ∷ within 1 (e .«depth_or_array_layers») maxLayers ∷ [])
-sizeInBounds D3 e = every (within 1 (e .width) maxSide3d ∷ within 1 (e .height) maxSide3d ∷ within 1 (e .«depth_or_array_layers») maxSide3d ∷ [])
+sizeInBounds D1 e = every (within 1 (e .width .0) maxSide ∷ eqb (e .height .0) 1 ∷ eqb (e .«depth_or_array_layers») 1 ∷ [])
+sizeInBounds D2 e = every (within 1 (e .width .0) maxSide ∷ within 1 (e .height .0) maxSide ∷ within 1 (e .«depth_or_array_layers») maxLayers ∷ [])
+sizeInBounds D3 e = every (within 1 (e .width .0) maxSide3d ∷ within 1 (e .height .0) maxSide3d ∷ within 1 (e .«depth_or_array_layers») maxSide3d ∷ [])
 
 -- the side that is halved from level to level: the largest, depth for 3D only; 1D has one level, as a side of 1 has
 unfoldable pub mipSide : TextureDimension → Extent3d → ℕ
 mipSide D1 e = 1
-mipSide D2 e = max (e .width) (e .height)
-mipSide D3 e = max (max (e .width) (e .height)) (e .«depth_or_array_layers»)
+mipSide D2 e = max (e .width .0) (e .height .0)
+mipSide D3 e = max (max (e .width .0) (e .height .0)) (e .«depth_or_array_layers»)
 
 -- levels: 1 up to the halvings that bring the largest side to 1, plus one
 unfoldable pub levelsInBounds : TextureDimension → Extent3d → ℕ → Bool
@@ -67,10 +67,10 @@ dimensionSuits format dimension = leb format 10 || eqb dimension 2
 
 -- sides are whole blocks: for 11 to 14 divisible by 4
 unfoldable pub sidesWhole : ℕ → Extent3d → Bool
-sidesWhole format e = multiple (e .width) (blockWidth format) && multiple (e .height) (blockHeight format)
+sidesWhole format e = multiple (e .width .0) (blockWidth format) && multiple (e .height .0) (blockHeight format)
 
 abbrev pub evenSides : Texture → Bool
-evenSides t = every (multiple (t .size .width) 2 ∷ multiple (t .size .height) 2 ∷ eqb (t .«mip_level_count») 1 ∷ [])
+evenSides t = every (multiple (t .size .width .0) 2 ∷ multiple (t .size .height .0) 2 ∷ eqb (t .«mip_level_count») 1 ∷ [])
 
 -- planes need even sides and one level
 unfoldable pub planesSuit : Texture → Bool

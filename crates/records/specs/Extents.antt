@@ -3,7 +3,7 @@ use Prim.Native.Nat.{ℕ}
 use Rattle.measures.specs.declared.Extent3d.{Extent3d}
 use Rattle.measures.specs.Measure.{physicalSize}
 use Rattle.mip_levels.specs.Level.{textureDimension, mipLevelSize}
-use Rattle.formats.specs.Table.{blockWidth, blockHeight}
+use Rattle.formats.specs.Table.{blockDimensions}
 use Rattle.records.specs.declared.Texture.{Texture}
 
 -- the logical extent of a level
@@ -12,4 +12,4 @@ logicalExtent t level = mipLevelSize (textureDimension (t .dimension)) (t .size)
 
 -- the physical extent: width and height rounded up to blocks
 unfoldable pub physicalExtent : Texture → ℕ → Extent3d
-physicalExtent t level = physicalSize (logicalExtent t level) (blockWidth (t .format)) (blockHeight (t .format))
+physicalExtent t level = physicalSize (logicalExtent t level) (blockDimensions (t .format))

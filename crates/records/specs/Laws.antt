@@ -12,10 +12,10 @@ use Rattle.records.specs.Extents.{logicalExtent}
 
 -- an extent that has texels, and no side above the largest limit
 pub record Sized (e : Extent3d) : Type 0 where
-  pub width-some : 0 < e .width
-  pub width-few : e .width ≤ maxSide
-  pub height-some : 0 < e .height
-  pub height-few : e .height ≤ maxSide
+  pub width-some : 0 < e .width .0
+  pub width-few : e .width .0 ≤ maxSide
+  pub height-some : 0 < e .height .0
+  pub height-few : e .height .0 ≤ maxSide
   pub depth-some : 0 < e .«depth_or_array_layers»
   pub depth-few : e .«depth_or_array_layers» ≤ maxSide3d
 
@@ -25,8 +25,8 @@ pub record TextureLaws (t : Texture) : Type 0 where
   pub levels-some : 0 < t .«mip_level_count»
   pub levels-few : t .«mip_level_count» ≤ maxLevels
   -- the first level is whole blocks
-  pub width-whole : t .size .width % blockWidth (t .format) ≡ 0
-  pub height-whole : t .size .height % blockHeight (t .format) ≡ 0
+  pub width-whole : t .size .width .0 % blockWidth (t .format) ≡ 0
+  pub height-whole : t .size .height .0 % blockHeight (t .format) ≡ 0
 
 pub record RecordLaws : Type 0 where
   pub buffer : (b : Buffer) → bufferInBounds b ≡ true → b .size ≤ maxBufferSize

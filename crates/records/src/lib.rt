@@ -13,6 +13,7 @@ use formats::TextureAspect;
 use measures::Extent3d;
 use measures::OptionU32;
 use measures::Origin3d;
+use measures::Texels;
 use mip_levels::TextureDimension;
 use refusals::Checked;
 use refusals::CopySide;
@@ -96,19 +97,21 @@ fn buffer_in_bounds(b: Buffer) -> bool
 fn size_in_bounds(dimension: TextureDimension, e: Extent3d) -> bool
     ensures { λ r. ⌜ r ≡ sizeInBounds dimension e ⌝ }
 {
+    let width = e.width.0;
+    let height = e.height.0;
     let depth = e.depth_or_array_layers;
     match dimension {
         TextureDimension::D1 => {
-            conditions::all_three(is_within(1, e.width, MAX_SIDE), e.height == 1, depth == 1)
+            conditions::all_three(is_within(1, width, MAX_SIDE), height == 1, depth == 1)
         }
         TextureDimension::D2 => conditions::all_three(
-            is_within(1, e.width, MAX_SIDE),
-            is_within(1, e.height, MAX_SIDE),
+            is_within(1, width, MAX_SIDE),
+            is_within(1, height, MAX_SIDE),
             is_within(1, depth, MAX_LAYERS),
         ),
         TextureDimension::D3 => conditions::all_three(
-            is_within(1, e.width, MAX_SIDE_3D),
-            is_within(1, e.height, MAX_SIDE_3D),
+            is_within(1, width, MAX_SIDE_3D),
+            is_within(1, height, MAX_SIDE_3D),
             is_within(1, depth, MAX_SIDE_3D),
         ),
     }
@@ -118,7 +121,7 @@ fn size_in_bounds(dimension: TextureDimension, e: Extent3d) -> bool
 fn mip_side(dimension: TextureDimension, e: Extent3d) -> u32
     ensures { λ r. ⌜ r ≡ mipSide dimension e ⌝ }
 {
-    let side = larger(e.width, e.height);
+    let side = larger(e.width.0, e.height.0);
     match dimension {
         TextureDimension::D1 => 1,
         TextureDimension::D2 => side,
@@ -206,9 +209,13 @@ fn sides_whole(format: u32, e: Extent3d) -> bool
     ensures { λ r. ⌜ r ≡ sidesWhole format e ⌝ }
 {
     let block = formats::block_dimensions(format);
+    let width = e.width;
+    let height = e.height;
+    let block_width = block.width;
+    let block_height = block.height;
     conditions::both(
-        measures::is_multiple_of(e.width, block.width),
-        measures::is_multiple_of(e.height, block.height),
+        width.is_multiple_of(block_width),
+        height.is_multiple_of(block_height),
     )
 }
 
@@ -216,9 +223,11 @@ fn has_even_sides(t: Texture) -> bool
     ensures { λ r. ⌜ r ≡ evenSides t ⌝ }
 {
     let size = t.size;
+    let width = size.width;
+    let height = size.height;
     conditions::all_three(
-        measures::is_multiple_of(size.width, 2),
-        measures::is_multiple_of(size.height, 2),
+        width.is_multiple_of(Texels(2)),
+        height.is_multiple_of(Texels(2)),
         t.mip_level_count == 1,
     )
 }
@@ -323,8 +332,10 @@ pub fn physical_extent(t: Texture, level: u32) -> Extent3d
     requires { ⌜ textureInBounds t ≡ true ⌝ }
     ensures { λ r. ⌜ r ≡ physicalExtent t level ⌝ }
 {
-    let block = formats::block_dimensions(t.format);
-    measures::physical_size(logical_extent(t, level), block.width, block.height)
+    measures::physical_size(
+        logical_extent(t, level),
+        formats::block_dimensions(t.format),
+    )
 }
 
 // Asks the check for the laws of records; nothing runs here.

@@ -8,10 +8,12 @@ use native.Mathlib.Omega.{arith}
 use lib.Dec.{eqb, ltb}
 use borrow.Author.Tests.{leb-false, ltb-false, eqb-true, not-false, le-ltb, lt-leb, eq-eqb}
 use Rattle.conditions.proofs.Rules.{neither, not-both}
+use Rattle.measures.specs.declared.Texels.{Texels}
+use Rattle.measures.specs.declared.BlockDimensions.{BlockDimensions}
 use Rattle.measures.specs.declared.Extent3d.{Extent3d}
 use Rattle.measures.specs.declared.Origin3d.{Origin3d}
-use Rattle.measures.specs.Measure.{multiple}
-use Rattle.formats.specs.Table.{blockWidth, blockHeight}
+use Rattle.measures.specs.Measure.{multiple, texels}
+use Rattle.formats.specs.Table.{blockDimensions}
 use Rattle.refusals.specs.declared.CopySide.{CopySide}
 use Rattle.refusals.specs.declared.TextureErrorDimension.{TextureErrorDimension}
 use Rattle.refusals.specs.declared.TextureErrorDimension.the-variants.{X, Y, Z}
@@ -30,30 +32,30 @@ use Rattle.rule_copy_range.specs.Laws.{RangeLaws, EveryRange}
 
 -- ---- one dimension
 
-pub record Run (exact : Bool) (start size limit : ℕ) : Type 0 where
-  pub inside : start + size ≤ limit
-  pub whole : exact ≡ true → size ≡ limit
+pub record Run (exact : Bool) (start size limit : Texels) : Type 0 where
+  pub inside : start .0 + size .0 ≤ limit .0
+  pub whole : exact ≡ true → size .0 ≡ limit .0
 
-module _ (of : Subject) (d : TextureErrorDimension) (start size limit : ℕ) (exact : Bool) where
+module _ (of : Subject) (d : TextureErrorDimension) (start size limit : Texels) (exact : Bool) where
   pub run-of : flatten (dimensionChecks of d start size limit exact) ≡ [] → Run exact start size limit
   unfolding dimensionChecks overruns isPartial
   run-of h =
       let n = none-in (dimensionChecks of d start size limit exact) h in
-      let b = neither (ltb limit start) (ltb (limit - start) size) (test-fails _ _ (n 1)) in
-      let low : start ≤ limit = ltb-false limit start (b .0) in
-      let fits : size ≤ limit - start = ltb-false (limit - start) size (b .1) in
+      let b = neither (ltb (limit .0) (start .0)) (ltb (limit .0 - start .0) (size .0)) (test-fails _ _ (n 1)) in
+      let low : start .0 ≤ limit .0 = ltb-false (limit .0) (start .0) (b .0) in
+      let fits : size .0 ≤ limit .0 - start .0 = ltb-false (limit .0 - start .0) (size .0) (b .1) in
       record {
         inside = omega arith;
         whole = λ e.
-            let parts = neither (not (eqb start 0)) (not (eqb size limit)) (not-both exact (not (eqb start 0) || not (eqb size limit)) (test-fails _ _ (n 0)) e) in
-            eqb-true size limit (not-false (eqb size limit) (parts .1));
+            let parts = neither (not (eqb (start .0) 0)) (not (eqb (size .0) (limit .0))) (not-both exact (not (eqb (start .0) 0) || not (eqb (size .0) (limit .0))) (test-fails _ _ (n 0)) e) in
+            eqb-true (size .0) (limit .0) (not-false (eqb (size .0) (limit .0)) (parts .1));
       }
 
-  not-partial : Run exact start size limit → (t : Bool) → exact ≡ t → isPartial exact start size limit ≡ false
+  not-partial : Run exact start size limit → (t : Bool) → exact ≡ t → isPartial exact (start .0) (size .0) (limit .0) ≡ false
   unfolding isPartial
   not-partial r true e =
       let w = r .whole e in
-      rw (e, eq-eqb start 0 (omega arith), eq-eqb size limit w)
+      rw (e, eq-eqb (start .0) 0 (omega arith), eq-eqb (size .0) (limit .0) w)
   not-partial r false e = rw e
 
   pub run-goes : Run exact start size limit → flatten (dimensionChecks of d start size limit exact) ≡ []
@@ -61,7 +63,7 @@ module _ (of : Subject) (d : TextureErrorDimension) (start size limit : ℕ) (ex
   run-goes r =
       let i = r .inside in
       flat-empty (dimensionChecks of d start size limit exact)
-      (test-off _ _ (not-partial r exact refl), (test-off _ _ (rw (le-ltb limit start (omega arith), le-ltb (limit - start) size (omega arith))), tt))
+      (test-off _ _ (not-partial r exact refl), (test-off _ _ (rw (le-ltb (limit .0) (start .0) (omega arith), le-ltb (limit .0 - start .0) (size .0) (omega arith))), tt))
 
 -- ---- the three dimensions, and whole blocks
 
@@ -69,7 +71,7 @@ module _ (of : Subject) (o : Origin3d) (size extent : Extent3d) (exact : Bool) w
   record Runs : Type 0 where
     x : Run exact (o .x) (size .width) (extent .width)
     y : Run exact (o .y) (size .height) (extent .height)
-    z : Run false (o .z) (size .«depth_or_array_layers») (extent .«depth_or_array_layers»)
+    z : Run false (texels (o .z)) (texels (size .«depth_or_array_layers»)) (texels (extent .«depth_or_array_layers»))
 
   runs-of : flatten (sideChecks of o size extent exact) ≡ [] → Runs
   unfolding sideChecks
@@ -92,23 +94,23 @@ no-rest : (n m : ℕ) → n % m ≡ 0 → not (multiple n m) ≡ false
 unfolding multiple
 no-rest n m h = rw (eq-eqb (n % m) 0 h)
 
-module _ (o : Origin3d) (size : Extent3d) (width height : ℕ) where
+module _ (o : Origin3d) (size : Extent3d) (block : BlockDimensions) where
   record Whole : Type 0 where
-    x : o .x % width ≡ 0
-    y : o .y % height ≡ 0
-    w : size .width % width ≡ 0
-    h : size .height % height ≡ 0
+    x : o .x .0 % block .width .0 ≡ 0
+    y : o .y .0 % block .height .0 ≡ 0
+    w : size .width .0 % block .width .0 ≡ 0
+    h : size .height .0 % block .height .0 ≡ 0
 
-  whole-of : flatten (blockChecks o size width height) ≡ [] → Whole
+  whole-of : flatten (blockChecks o size block) ≡ [] → Whole
   unfolding blockChecks
   whole-of b =
-      let n = none-in (blockChecks o size width height) b in
+      let n = none-in (blockChecks o size block) b in
       record { x = rest-of _ _ (test-fails _ _ (n 0)); y = rest-of _ _ (test-fails _ _ (n 1)); w = rest-of _ _ (test-fails _ _ (n 2)); h = rest-of _ _ (test-fails _ _ (n 3)) }
 
-  whole-goes : Whole → flatten (blockChecks o size width height) ≡ []
+  whole-goes : Whole → flatten (blockChecks o size block) ≡ []
   unfolding blockChecks
   whole-goes r =
-      flat-empty (blockChecks o size width height)
+      flat-empty (blockChecks o size block)
       (test-off _ _ (no-rest _ _ (r .x)), (test-off _ _ (no-rest _ _ (r .y)), (test-off _ _ (no-rest _ _ (r .w)), (test-off _ _ (no-rest _ _ (r .h)), tt))))
 
 -- ---- the rule
@@ -131,7 +133,7 @@ module _ (view : TexelCopyTextureInfo) (t : Texture) (side : CopySide) (size : E
                 z = record { inside = r .z-inside; whole = λ e. let z : _≡_ {A = ℕ} 0 1 = cc in absurd (omega arith) };
               }),
           (
-            whole-goes (view .origin) size (blockWidth (t .format)) (blockHeight (t .format)) (record { x = r .x-whole; y = r .y-whole; w = r .width-whole; h = r .height-whole }),
+            whole-goes (view .origin) size (blockDimensions (t .format)) (record { x = r .x-whole; y = r .y-whole; w = r .width-whole; h = r .height-whole }),
             tt,
           ),
         ),
@@ -142,7 +144,7 @@ module _ (view : TexelCopyTextureInfo) (t : Texture) (side : CopySide) (size : E
   range-holds h =
       let n = none-in (rangeChecks view t side size) h in
       let r = runs-of (subjectOf t side) (view .origin) size extent (requiresExactSize t) (n 1) in
-      let w = whole-of (view .origin) size (blockWidth (t .format)) (blockHeight (t .format)) (n 2) in
+      let w = whole-of (view .origin) size (blockDimensions (t .format)) (n 2) in
       record {
         level = leb-false _ _ (test-fails _ _ (n 0));
         x-inside = r .x .inside;

@@ -8,8 +8,9 @@ use native.Mathlib.Omega.{arith}
 use lib.Dec.{eqb, ltb}
 use borrow.Author.Tests.{ltb-true, leb-true, eqb-true, lt-ltb, le-leb, eq-eqb}
 use Rattle.conditions.proofs.Rules.{both-true}
+use Rattle.measures.specs.declared.Texels.{Texels}
 use Rattle.measures.specs.declared.Extent3d.{Extent3d}
-use Rattle.measures.specs.Measure.{multiple}
+use Rattle.measures.specs.Measure.{multiple, texels}
 use Rattle.formats.specs.Table.{blockWidth, blockHeight}
 use Rattle.refusals.specs.declared.CopySide.{CopySide}
 use Rattle.refusals.specs.declared.TransferError.{TransferError}
@@ -30,26 +31,26 @@ both-hold s t h k = rw (h, k)
 
 -- ---- one run
 
-run-inside : (exact : Bool) (start size limit : ℕ) → runFits exact start size limit ≡ true → start + size ≤ limit
+run-inside : (exact : Bool) (start size limit : Texels) → runFits exact start size limit ≡ true → start .0 + size .0 ≤ limit .0
 unfolding runFits
 run-inside true start size limit h =
-    let b = both-true (eqb start 0) (eqb size limit) h in
-    let s = eqb-true start 0 (b .0) in
-    let l = eqb-true size limit (b .1) in
+    let b = both-true (eqb (start .0) 0) (eqb (size .0) (limit .0)) h in
+    let s = eqb-true (start .0) 0 (b .0) in
+    let l = eqb-true (size .0) (limit .0) (b .1) in
     omega arith
-run-inside false start size limit h = leb-true (start + size) limit h
+run-inside false start size limit h = leb-true (start .0 + size .0) (limit .0) h
 
-run-whole : (exact : Bool) (start size limit : ℕ) → runFits exact start size limit ≡ true → exact ≡ true → size ≡ limit
+run-whole : (exact : Bool) (start size limit : Texels) → runFits exact start size limit ≡ true → exact ≡ true → size .0 ≡ limit .0
 unfolding runFits
-run-whole true start size limit h e = eqb-true size limit (both-true (eqb start 0) (eqb size limit) h .1)
+run-whole true start size limit h e = eqb-true (size .0) (limit .0) (both-true (eqb (start .0) 0) (eqb (size .0) (limit .0)) h .1)
 run-whole false start size limit h e = let z : _≡_ {A = ℕ} 0 1 = cc in absurd (omega arith)
 
-run-fits : (exact : Bool) (start size limit : ℕ) → start + size ≤ limit → (exact ≡ true → size ≡ limit) → runFits exact start size limit ≡ true
+run-fits : (exact : Bool) (start size limit : Texels) → start .0 + size .0 ≤ limit .0 → (exact ≡ true → size .0 ≡ limit .0) → runFits exact start size limit ≡ true
 unfolding runFits
 run-fits true start size limit i w =
     let l = w refl in
-    both-hold (eqb start 0) (eqb size limit) (eq-eqb start 0 (omega arith)) (eq-eqb size limit l)
-run-fits false start size limit i w = le-leb (start + size) limit i
+    both-hold (eqb (start .0) 0) (eqb (size .0) (limit .0)) (eq-eqb (start .0) 0 (omega arith)) (eq-eqb (size .0) (limit .0) l)
+run-fits false start size limit i w = le-leb (start .0 + size .0) (limit .0) i
 
 -- ---- blocks
 
@@ -77,7 +78,7 @@ module _ (view : TexelCopyTextureInfo) (t : Texture) (size : Extent3d) where
   y-fits = runFits (requiresExactSize t) (view .origin .y) (size .height) (extent .height)
 
   abbrev z-fits : Bool
-  z-fits = runFits false (view .origin .z) (size .«depth_or_array_layers») (extent .«depth_or_array_layers»)
+  z-fits = runFits false (texels (view .origin .z)) (texels (size .«depth_or_array_layers»)) (texels (extent .«depth_or_array_layers»))
 
   abbrev bw : ℕ
   bw = blockWidth (t .format)
@@ -92,9 +93,9 @@ module _ (view : TexelCopyTextureInfo) (t : Texture) (size : Extent3d) where
       let s = both-true (extentFits view t size) (alignmentFits view t size) (l .1) in
       let x = both-true x-fits (y-fits && z-fits) (s .0) in
       let y = both-true y-fits z-fits (x .1) in
-      let a = both-true (multiple (view .origin .x) bw) _ (s .1) in
-      let b = both-true (multiple (view .origin .y) bh) _ (a .1) in
-      let w = both-true (multiple (size .width) bw) (multiple (size .height) bh) (b .1) in
+      let a = both-true (multiple (view .origin .x .0) bw) _ (s .1) in
+      let b = both-true (multiple (view .origin .y .0) bh) _ (a .1) in
+      let w = both-true (multiple (size .width .0) bw) (multiple (size .height .0) bh) (b .1) in
       record {
         level = ltb-true _ _ (l .0);
         x-inside = run-inside (requiresExactSize t) _ _ _ (x .0);

@@ -15,17 +15,17 @@ pub record RangeLaws (view : TexelCopyTextureInfo) (t : Texture) (size : Extent3
   -- the level exists
   pub level : view .«mip_level» < t .«mip_level_count»
   -- the range lies inside the level's physical extent
-  pub x-inside : view .origin .x + size .width ≤ physicalExtent t (view .«mip_level») .width
-  pub y-inside : view .origin .y + size .height ≤ physicalExtent t (view .«mip_level») .height
+  pub x-inside : view .origin .x .0 + size .width .0 ≤ physicalExtent t (view .«mip_level») .width .0
+  pub y-inside : view .origin .y .0 + size .height .0 ≤ physicalExtent t (view .«mip_level») .height .0
   pub z-inside : view .origin .z + size .«depth_or_array_layers» ≤ physicalExtent t (view .«mip_level») .«depth_or_array_layers»
   -- and is whole blocks
-  pub x-whole : view .origin .x % blockWidth (t .format) ≡ 0
-  pub y-whole : view .origin .y % blockHeight (t .format) ≡ 0
-  pub width-whole : size .width % blockWidth (t .format) ≡ 0
-  pub height-whole : size .height % blockHeight (t .format) ≡ 0
+  pub x-whole : view .origin .x .0 % blockWidth (t .format) ≡ 0
+  pub y-whole : view .origin .y .0 % blockHeight (t .format) ≡ 0
+  pub width-whole : size .width .0 % blockWidth (t .format) ≡ 0
+  pub height-whole : size .height .0 % blockHeight (t .format) ≡ 0
   -- where sides can only be copied whole, they are
-  pub exact-width : requiresExactSize t ≡ true → size .width ≡ physicalExtent t (view .«mip_level») .width
-  pub exact-height : requiresExactSize t ≡ true → size .height ≡ physicalExtent t (view .«mip_level») .height
+  pub exact-width : requiresExactSize t ≡ true → size .width .0 ≡ physicalExtent t (view .«mip_level») .width .0
+  pub exact-height : requiresExactSize t ≡ true → size .height .0 ≡ physicalExtent t (view .«mip_level») .height .0
 
 -- the checks find nothing exactly where they hold
 pub record RangeRule (view : TexelCopyTextureInfo) (t : Texture) (side : CopySide) (size : Extent3d) : Type 0 where

@@ -3,13 +3,15 @@ use Prim.Native.Nat.{ℕ, _+_, _-_, _%_, _^_}
 use mathlib.Core.Bool.{Bool, true, false, not, _&&_, _||_}
 use mathlib.Core.List.{[], _∷_, flatten}
 use lib.Dec.{eqb, leb, ltb}
+use Rattle.measures.specs.declared.Texels.{Texels}
+use Rattle.measures.specs.declared.BlockDimensions.{BlockDimensions}
 use Rattle.measures.specs.declared.Extent3d.{Extent3d}
 use Rattle.measures.specs.declared.Origin3d.{Origin3d}
-use Rattle.measures.specs.Measure.{multiple}
+use Rattle.measures.specs.Measure.{multiple, texels}
 use Rattle.mip_levels.specs.declared.TextureDimension.{TextureDimension}
 use Rattle.mip_levels.specs.declared.TextureDimension.the-variants.{D1, D2, D3}
 use Rattle.mip_levels.specs.Level.{textureDimension}
-use Rattle.formats.specs.Table.{blockWidth, blockHeight, isDepthStencil}
+use Rattle.formats.specs.Table.{blockDimensions, isDepthStencil}
 use Rattle.refusals.specs.declared.CopySide.{CopySide}
 use Rattle.refusals.specs.declared.TextureErrorDimension.{TextureErrorDimension}
 use Rattle.refusals.specs.declared.TextureErrorDimension.the-variants.{X, Y, Z}
@@ -44,10 +46,10 @@ unfoldable pub textureOverrun : CopySide → TextureErrorDimension → ℕ → �
 textureOverrun side d start size limit = E.TextureOverrun start (endOf start size) limit d side
 
 -- one side
-unfoldable pub dimensionChecks : Subject → TextureErrorDimension → ℕ → ℕ → ℕ → Bool → Checks
+unfoldable pub dimensionChecks : Subject → TextureErrorDimension → Texels → Texels → Texels → Bool → Checks
 dimensionChecks of d start size limit exact =
-    refuse-if (isPartial exact start size limit) (partialTransfer of d start size limit)  -- 10
-    ∷ refuse-if (overruns start size limit) (textureOverrun (of .side) d start size limit)  -- 9
+    refuse-if (isPartial exact (start .0) (size .0) (limit .0)) (partialTransfer of d (start .0) (size .0) (limit .0))  -- 10
+    ∷ refuse-if (overruns (start .0) (size .0) (limit .0)) (textureOverrun (of .side) d (start .0) (size .0) (limit .0))  -- 9
     ∷ []
 
 -- X and Y of a depth-stencil or multisampled texture are copied whole
@@ -79,28 +81,28 @@ layersOf D3 depth = 1
 unfoldable pub arrayLayerCount : Texture → Extent3d → ℕ
 arrayLayerCount t size = layersOf (textureDimension (t .dimension)) (size .«depth_or_array_layers»)
 
--- X, Y and Z in turn; on Z a part is always allowed
+-- X, Y and Z in turn; on Z, where a slice or a layer counts as a texel, a part is always allowed
 unfoldable pub sideChecks : Subject → Origin3d → Extent3d → Extent3d → Bool → Checks
 sideChecks of o size extent exact =
     flatten (dimensionChecks of X (o .x) (size .width) (extent .width) exact)
     ∷ flatten (dimensionChecks of Y (o .y) (size .height) (extent .height) exact)
-    ∷ flatten (dimensionChecks of Z (o .z) (size .«depth_or_array_layers») (extent .«depth_or_array_layers») false)
+    ∷ flatten (dimensionChecks of Z (texels (o .z)) (texels (size .«depth_or_array_layers»)) (texels (extent .«depth_or_array_layers»)) false)
     ∷ []
 
 -- whole blocks
-unfoldable pub blockChecks : Origin3d → Extent3d → ℕ → ℕ → Checks
-blockChecks o size width height =
-    refuse-if (not (multiple (o .x) width)) E.UnalignedCopyOriginX  -- 18
-    ∷ refuse-if (not (multiple (o .y) height)) E.UnalignedCopyOriginY  -- 19
-    ∷ refuse-if (not (multiple (size .width) width)) E.UnalignedCopyWidth  -- 16
-    ∷ refuse-if (not (multiple (size .height) height)) E.UnalignedCopyHeight  -- 17
+unfoldable pub blockChecks : Origin3d → Extent3d → BlockDimensions → Checks
+blockChecks o size block =
+    refuse-if (not (multiple (o .x .0) (block .width .0))) E.UnalignedCopyOriginX  -- 18
+    ∷ refuse-if (not (multiple (o .y .0) (block .height .0))) E.UnalignedCopyOriginY  -- 19
+    ∷ refuse-if (not (multiple (size .width .0) (block .width .0))) E.UnalignedCopyWidth  -- 16
+    ∷ refuse-if (not (multiple (size .height .0) (block .height .0))) E.UnalignedCopyHeight  -- 17
     ∷ []
 
 unfoldable pub rangeChecks : TexelCopyTextureInfo → Texture → CopySide → Extent3d → Checks
 rangeChecks view t side size =
     refuse-if (leb (t .«mip_level_count») (view .«mip_level»)) (E.InvalidTextureMipLevel (view .«mip_level») (t .«mip_level_count»))  -- 13
     ∷ flatten (sideChecks (subjectOf t side) (view .origin) size (physicalExtent t (view .«mip_level»)) (requiresExactSize t))  -- X, Y, Z: 10, 9
-    ∷ flatten (blockChecks (view .origin) size (blockWidth (t .format)) (blockHeight (t .format)))  -- 18, 19, 16, 17
+    ∷ flatten (blockChecks (view .origin) size (blockDimensions (t .format)))  -- 18, 19, 16, 17
     ∷ []
 
 -- an accepted range gives the size of a region and the layers

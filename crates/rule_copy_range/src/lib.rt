@@ -2,15 +2,17 @@
 ghost use mathlib.Core.Path.{_≡_};
 ghost use mathlib.Core.Bool.{true};
 ghost use Prim.Native.Nat.{_<_};
-ghost use Rattle.formats.specs.Table.{blockWidth, blockHeight};
+ghost use Rattle.formats.specs.Table.{blockDimensions};
 ghost use Rattle.refusals.specs.Order.{checked};
 ghost use Rattle.records.specs.Bounds.{textureInBounds};
 ghost use Rattle.records.specs.Extents.{physicalExtent};
 ghost use Rattle.rule_copy_range.specs.Range.{endOf, isPartial, overruns, partialTransfer, textureOverrun, dimensionChecks, sideChecks, blockChecks, requiresExactSize, subjectOf, depthOf, layersOf, copyExtent, arrayLayerCount, rangeChecked, goesOn};
 ghost use Rattle.rule_copy_range.specs.Inside.{runFits, sidesFit, blocksFit, extentFits, alignmentFits};
 ghost use Rattle.rule_copy_range.specs.Laws.{EveryRange};
+use measures::BlockDimensions;
 use measures::Extent3d;
 use measures::Origin3d;
+use measures::Texels;
 use mip_levels::TextureDimension;
 use records::TexelCopyTextureInfo;
 use records::Texture;
@@ -28,8 +30,8 @@ pub struct Subject {
 
 // The size of one region.
 pub struct CopyExtent {
-    pub width: u32,
-    pub height: u32,
+    pub width: Texels,
+    pub height: Texels,
     pub depth: u32,
 }
 
@@ -81,7 +83,7 @@ fn partial_transfer(
 }
 
 // A run that leaves its texture, or its plane.
-pub fn texture_overrun(
+fn texture_overrun(
     side: CopySide,
     dimension: TextureErrorDimension,
     start: u32,
@@ -102,76 +104,79 @@ pub fn texture_overrun(
 pub fn check_dimension(
     of: Subject,
     dimension: TextureErrorDimension,
-    start: u32,
-    size: u32,
-    limit: u32,
+    start: Texels,
+    size: Texels,
+    limit: Texels,
     requires_exact_size: bool,
 ) -> Checked
     ensures { λ r. ⌜ r ≡ checked (dimensionChecks of dimension start size limit «requires_exact_size») ⌝ }
 {
-    if is_partial(requires_exact_size, start, size, limit) {
-        return Checked::Refused(partial_transfer(of, dimension, start, size, limit));
+    if is_partial(requires_exact_size, start.0, size.0, limit.0) {
+        return Checked::Refused(partial_transfer(of, dimension, start.0, size.0, limit.0));
     }
-    if is_overrun(start, size, limit) {
+    if is_overrun(start.0, size.0, limit.0) {
         let side = of.side;
-        return Checked::Refused(texture_overrun(side, dimension, start, size, limit));
+        return Checked::Refused(texture_overrun(side, dimension, start.0, size.0, limit.0));
     }
     Checked::GoOn
 }
 
+// On Z a slice or a layer counts as a texel.
 fn check_sides(of: Subject, o: Origin3d, size: Extent3d, extent: Extent3d, exact: bool) -> Checked
     ensures { λ r. ⌜ r ≡ checked (sideChecks of o size extent exact) ⌝ }
 {
-    let x = check_dimension(
+    let on_x = check_dimension(
         of,
         TextureErrorDimension::X,
-        o.x,
-        size.width,
-        extent.width,
+        Texels(o.x.0),
+        Texels(size.width.0),
+        Texels(extent.width.0),
         exact,
     );
-    if let Checked::Refused(why) = x {
+    if let Checked::Refused(why) = on_x {
         return Checked::Refused(why);
     }
-    let y = check_dimension(
+    let on_y = check_dimension(
         of,
         TextureErrorDimension::Y,
-        o.y,
-        size.height,
-        extent.height,
+        Texels(o.y.0),
+        Texels(size.height.0),
+        Texels(extent.height.0),
         exact,
     );
-    if let Checked::Refused(why) = y {
+    if let Checked::Refused(why) = on_y {
         return Checked::Refused(why);
     }
-    let z = check_dimension(
+    let on_z = check_dimension(
         of,
         TextureErrorDimension::Z,
-        o.z,
-        size.depth_or_array_layers,
-        extent.depth_or_array_layers,
+        Texels(o.z),
+        Texels(size.depth_or_array_layers),
+        Texels(extent.depth_or_array_layers),
         false,
     );
-    if let Checked::Refused(why) = z {
+    if let Checked::Refused(why) = on_z {
         return Checked::Refused(why);
     }
     Checked::GoOn
 }
 
-fn check_blocks(o: Origin3d, size: Extent3d, block_width: u32, block_height: u32) -> Checked
-    requires { ⌜ (0 < «block_width») × (0 < «block_height») ⌝ }
-    ensures { λ r. ⌜ r ≡ checked (blockChecks o size «block_width» «block_height») ⌝ }
+fn check_blocks(o: Origin3d, size: Extent3d, block: BlockDimensions) -> Checked
+    requires { ⌜ (0 < block .width .0) × (0 < block .height .0) ⌝ }
+    ensures { λ r. ⌜ r ≡ checked (blockChecks o size block) ⌝ }
 {
-    if !measures::is_multiple_of(o.x, block_width) {
+    let width = Texels(block.width.0);
+    let height = Texels(block.height.0);
+    if !Texels(o.x.0).is_multiple_of(width) {
         return Checked::Refused(TransferError::UnalignedCopyOriginX);
     }
-    if !measures::is_multiple_of(o.y, block_height) {
+    if !Texels(o.y.0).is_multiple_of(height) {
         return Checked::Refused(TransferError::UnalignedCopyOriginY);
     }
-    if !measures::is_multiple_of(size.width, block_width) {
+    if !Texels(size.width.0).is_multiple_of(width) {
         return Checked::Refused(TransferError::UnalignedCopyWidth);
     }
-    if !measures::is_multiple_of(size.height, block_height) {
+    if !Texels(size.height.0).is_multiple_of(height) {
         return Checked::Refused(TransferError::UnalignedCopyHeight);
     }
     Checked::GoOn
@@ -220,9 +225,11 @@ pub fn copy_extent(t: Texture, size: Extent3d) -> CopyExtent
     ensures { λ r. ⌜ r ≡ copyExtent t size ⌝ }
 {
     let dimension = mip_levels::texture_dimension(t.dimension);
+    let width = size.width;
+    let height = size.height;
     CopyExtent {
-        width: size.width,
-        height: size.height,
+        width,
+        height,
         depth: depth_of(dimension, size.depth_or_array_layers),
     }
 }
@@ -244,11 +251,11 @@ fn check_extent(view: TexelCopyTextureInfo, t: Texture, side: CopySide, size: Ex
 }
 
 fn check_alignment(view: TexelCopyTextureInfo, t: Texture, size: Extent3d) -> Checked
-    ensures { λ r. ⌜ r ≡ checked (blockChecks (view .origin) size (blockWidth (t .format)) (blockHeight (t .format))) ⌝ }
+    ensures { λ r. ⌜ r ≡ checked (blockChecks (view .origin) size (blockDimensions (t .format))) ⌝ }
 {
     let origin = view.origin;
     let block = formats::block_dimensions(t.format);
-    check_blocks(origin, size, block.width, block.height)
+    check_blocks(origin, size, block)
 }
 
 pub fn validate_texture_copy_range(
@@ -278,43 +285,59 @@ pub fn validate_texture_copy_range(
 }
 
 // Whether a run lies inside its limit, and is all of it where it must be.
-fn run_fits(exact: bool, start: u32, size: u32, limit: u32) -> bool
+fn run_fits(exact: bool, start: Texels, size: Texels, limit: Texels) -> bool
     ensures { λ r. ⌜ r ≡ runFits exact start size limit ⌝ }
 {
+    let from = start.0;
+    let count = size.0;
+    let most = limit.0;
     if exact {
-        return conditions::both(start == 0, size == limit);
+        return conditions::both(from == 0, count == most);
     }
-    start as u64 + size as u64 <= limit as u64
+    from as u64 + count as u64 <= most as u64
 }
 
+// Sides are read by their numbers: copied as they are, two of them become one 64-bit word that is taken apart again.
 fn sides_fit(exact: bool, o: Origin3d, size: Extent3d, extent: Extent3d) -> bool
     ensures { λ r. ⌜ r ≡ sidesFit exact o size extent ⌝ }
 {
-    if !run_fits(exact, o.x, size.width, extent.width) {
+    if !run_fits(
+        exact,
+        Texels(o.x.0),
+        Texels(size.width.0),
+        Texels(extent.width.0),
+    ) {
         return false;
     }
-    if !run_fits(exact, o.y, size.height, extent.height) {
+    if !run_fits(
+        exact,
+        Texels(o.y.0),
+        Texels(size.height.0),
+        Texels(extent.height.0),
+    ) {
         return false;
     }
     run_fits(
         false,
-        o.z,
-        size.depth_or_array_layers,
-        extent.depth_or_array_layers,
+        Texels(o.z),
+        Texels(size.depth_or_array_layers),
+        Texels(extent.depth_or_array_layers),
     )
 }
 
 // In one test, so that the whole is small enough for the compiler to put in line on both sides of a copy.
-fn blocks_fit(o: Origin3d, size: Extent3d, block_width: u32, block_height: u32) -> bool
-    requires { ⌜ (0 < «block_width») × (0 < «block_height») ⌝ }
-    ensures { λ r. ⌜ r ≡ blocksFit o size «block_width» «block_height» ⌝ }
+fn blocks_fit(o: Origin3d, size: Extent3d, block: BlockDimensions) -> bool
+    requires { ⌜ (0 < block .width .0) × (0 < block .height .0) ⌝ }
+    ensures { λ r. ⌜ r ≡ blocksFit o size block ⌝ }
 {
+    let width = Texels(block.width.0);
+    let height = Texels(block.height.0);
     conditions::both(
-        measures::is_multiple_of(o.x, block_width),
+        Texels(o.x.0).is_multiple_of(width),
         conditions::all_three(
-            measures::is_multiple_of(o.y, block_height),
-            measures::is_multiple_of(size.width, block_width),
-            measures::is_multiple_of(size.height, block_height),
+            Texels(o.y.0).is_multiple_of(height),
+            Texels(size.width.0).is_multiple_of(width),
+            Texels(size.height.0).is_multiple_of(height),
         ),
     )
 }
@@ -333,7 +356,7 @@ fn alignment_fits(view: TexelCopyTextureInfo, t: Texture, size: Extent3d) -> boo
 {
     let origin = view.origin;
     let block = formats::block_dimensions(t.format);
-    blocks_fit(origin, size, block.width, block.height)
+    blocks_fit(origin, size, block)
 }
 
 // Whether `validate_texture_copy_range` goes on, for callers that make the refusal only where it is needed.

@@ -48,8 +48,8 @@ depthDiffers D3 depth level = not (eqb depth level)
 -- width, height or (3D only) depth differs from the logical level size
 unfoldable pub sizeDiffers : TextureDimension → Extent3d → Extent3d → Bool
 sizeDiffers dimension size level =
-    not (eqb (size .width) (level .width))
-    || (not (eqb (size .height) (level .height))
+    not (eqb (size .width .0) (level .width .0))
+    || (not (eqb (size .height .0) (level .height .0))
     || depthDiffers dimension (size .«depth_or_array_layers») (level .«depth_or_array_layers»))
 
 -- or the aspect is not All

@@ -3,11 +3,13 @@
 ghost use mathlib.Core.Path.{_≡_};
 ghost use mathlib.Core.Bool.{_||_, not};
 ghost use Prim.Native.Nat.{_+_, _^_, _≤_, _<_};
+ghost use lib.Dec.{eqb};
 ghost use Rattle.conditions.specs.Conditions.{pick};
 ghost use Rattle.rule_init_ranges.specs.Init.{kindNumber, isAll, depthDiffers, sizeDiffers, isPartialCover, initLayers, textureRange, srcTextureRange, dstTextureRange, alignedDown, alignedUp, bufferRange, unless, outward, inward, isSource, bufferInit};
 use formats::TextureAspect;
 use measures::Extent3d;
 use measures::Range;
+use measures::Texels;
 use mip_levels::TextureDimension;
 use records::TexelCopyTextureInfo;
 use records::Texture;
@@ -76,13 +78,23 @@ fn depth_differs(dimension: TextureDimension, depth: u32, level: u32) -> bool
     }
 }
 
+fn differ(a: Texels, b: Texels) -> bool
+    ensures { λ r. ⌜ r ≡ not (eqb (a .0) (b .0)) ⌝ }
+{
+    a.0 != b.0
+}
+
 fn size_differs(dimension: TextureDimension, size: Extent3d, level: Extent3d) -> bool
     ensures { λ r. ⌜ r ≡ sizeDiffers dimension size level ⌝ }
 {
+    let width = size.width;
+    let height = size.height;
+    let level_width = level.width;
+    let level_height = level.height;
     conditions::either(
-        size.width != level.width,
+        differ(width, level_width),
         conditions::either(
-            size.height != level.height,
+            differ(height, level_height),
             depth_differs(
                 dimension,
                 size.depth_or_array_layers,
@@ -92,7 +104,7 @@ fn size_differs(dimension: TextureDimension, size: Extent3d, level: Extent3d) ->
     )
 }
 
-pub fn has_copy_partial_init_tracker_coverage(
+fn has_copy_partial_init_tracker_coverage(
     copy_size: Extent3d,
     view: TexelCopyTextureInfo,
     t: Texture,

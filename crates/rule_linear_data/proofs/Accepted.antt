@@ -49,7 +49,7 @@ module _ (layout : TexelCopyBufferLayout) (bufferSize : ℕ) (side : CopySide) (
       let fits = ltb-false (bufferSize - layout .offset) T (test-fails _ _ (n 8)) in
       record {
         row-fits = not-below (layout .«bytes_per_row») (d .«row_bytes») (test-fails _ _ (n 0));
-        rows-fit = not-below (layout .«rows_per_image») (d .rows) (test-fails _ _ (n 1));
+        rows-fit = not-below (layout .«rows_per_image») (d .rows .0) (test-fails _ _ (n 1));
         bytes-given = test-fails _ _ (n 5);
         rows-given = test-fails _ _ (n 6);
         inside = omega arith;
@@ -67,7 +67,7 @@ module _ (layout : TexelCopyBufferLayout) (bufferSize : ℕ) (side : CopySide) (
       flat-empty (linearChecks layout bufferSize side d) (
         test-off _ _ (at-least (layout .«bytes_per_row») (d .«row_bytes») (l .row-fits)),
         (
-          test-off _ _ (at-least (layout .«rows_per_image») (d .rows) (l .rows-fit)),
+          test-off _ _ (at-least (layout .«rows_per_image») (d .rows .0) (l .rows-fit)),
           (
             test-off _ _ (below (imageStride layout d) (l .stride-fits)),
             (
@@ -87,7 +87,7 @@ module _ (layout : TexelCopyBufferLayout) (bufferSize : ℕ) (side : CopySide) (
         ),
       )
 
-rows-within : (layout : TexelCopyBufferLayout) (bufferSize : ℕ) (d : Dense) → LinearLaws layout bufferSize d → d .rows * rowStride layout d ≤ imageStride layout d
+rows-within : (layout : TexelCopyBufferLayout) (bufferSize : ℕ) (d : Dense) → LinearLaws layout bufferSize d → d .rows .0 * rowStride layout d ≤ imageStride layout d
 rows-within layout bufferSize d l = mul-le-mul-right (rowStride layout d) (l .rows-fit)
 
 pub every-linear : EveryLinear

@@ -11,7 +11,7 @@ use Rattle.rule_linear_data.specs.Linear.{severalRows, severalImages, ro
 pub record LinearLaws (layout : TexelCopyBufferLayout) (bufferSize : ℕ) (d : Dense) : Type 0 where
   -- a row fits its stride, and the rows an image's
   pub row-fits : d .«row_bytes» ≤ rowStride layout d
-  pub rows-fit : d .rows ≤ imageRows layout d
+  pub rows-fit : d .rows .0 ≤ imageRows layout d
   -- what has to be given is given
   pub bytes-given : lacks (layout .«bytes_per_row») (severalRows d) ≡ false
   pub rows-given : lacks (layout .«rows_per_image») (severalImages d) ≡ false
@@ -28,7 +28,7 @@ pub record LinearRule (layout : TexelCopyBufferLayout) (bufferSize : ℕ) (side 
 
 -- the rows of an image lie within its stride
 abbrev pub RowsWithin : TexelCopyBufferLayout → ℕ → Dense → Type 0
-RowsWithin layout bufferSize d = LinearLaws layout bufferSize d → d .rows * rowStride layout d ≤ imageStride layout d
+RowsWithin layout bufferSize d = LinearLaws layout bufferSize d → d .rows .0 * rowStride layout d ≤ imageStride layout d
 
 pub record EveryLinear : Type 0 where
   pub rule : (layout : TexelCopyBufferLayout) (bufferSize : ℕ) (side : CopySide) (d : Dense) → LinearRule layout bufferSize side d

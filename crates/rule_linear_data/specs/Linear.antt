@@ -7,9 +7,9 @@ use Rattle.conditions.specs.Conditions.{pick}
 use Rattle.measures.specs.declared.Extent3d.{Extent3d}
 use Rattle.measures.specs.declared.OptionU32.{OptionU32}
 use Rattle.measures.specs.declared.OptionU32.the-variants.{Given, Absent}
-use Rattle.measures.specs.Measure.{blocksOf, orElse}
+use Rattle.measures.specs.Measure.{inBlocks, orElse}
 use Rattle.formats.specs.declared.TextureAspect.{TextureAspect}
-use Rattle.formats.specs.Table.{blockWidth, blockHeight}
+use Rattle.formats.specs.Table.{blockDimensions}
 use Rattle.formats.specs.Aspects.{blockCopySize}
 use Rattle.refusals.specs.declared.CopySide.{CopySide}
 use Rattle.refusals.specs.declared.TransferError.the-variants as E
@@ -31,14 +31,14 @@ blockBytes format aspect = orElse (blockCopySize format aspect) 0
 unfoldable pub denseOf : ℕ → TextureAspect → Extent3d → Dense
 denseOf format aspect size =
     record {
-      «row_bytes» = blocksOf (size .width) (blockWidth format) * blockBytes format aspect;
-      rows = blocksOf (size .height) (blockHeight format);
+      «row_bytes» = inBlocks (size .width) (blockDimensions format .width) .0 * blockBytes format aspect;
+      rows = inBlocks (size .height) (blockDimensions format .height);
       images = size .«depth_or_array_layers»;
     }
 
 -- more than one row or image; more than one image
 unfoldable pub severalRows : Dense → Bool
-severalRows d = ltb 1 (d .images) || ltb 1 (d .rows)
+severalRows d = ltb 1 (d .images) || ltb 1 (d .rows .0)
 
 unfoldable pub severalImages : Dense → Bool
 severalImages d = ltb 1 (d .images)
@@ -53,13 +53,13 @@ abbrev pub rowStride : TexelCopyBufferLayout → Dense → ℕ
 rowStride layout d = orElse (layout .«bytes_per_row») (d .«row_bytes»)
 
 abbrev pub imageRows : TexelCopyBufferLayout → Dense → ℕ
-imageRows layout d = orElse (layout .«rows_per_image») (d .rows)
+imageRows layout d = orElse (layout .«rows_per_image») (d .rows .0)
 
 abbrev pub imageStride : TexelCopyBufferLayout → Dense → ℕ
 imageStride layout d = imageRows layout d * rowStride layout d
 
 abbrev pub imageBytes : TexelCopyBufferLayout → Dense → ℕ
-imageBytes layout d = stacked (d .rows) (rowStride layout d) (d .«row_bytes»)
+imageBytes layout d = stacked (d .rows .0) (rowStride layout d) (d .«row_bytes»)
 
 abbrev pub totalBytes : TexelCopyBufferLayout → Dense → ℕ
 totalBytes layout d = stacked (d .images) (imageStride layout d) (imageBytes layout d)
@@ -98,7 +98,7 @@ reaches-2^64 n = not (ltb n (2 ^ 64))
 unfoldable pub linearChecks : TexelCopyBufferLayout → ℕ → CopySide → Dense → Checks
 linearChecks layout bufferSize side d =
     refuse-if (isBelow (layout .«bytes_per_row») (d .«row_bytes»)) E.InvalidBytesPerRow  -- 23
-    ∷ refuse-if (isBelow (layout .«rows_per_image») (d .rows)) E.InvalidRowsPerImage  -- 24
+    ∷ refuse-if (isBelow (layout .«rows_per_image») (d .rows .0)) E.InvalidRowsPerImage  -- 24
     ∷ refuse-if (reaches-2^64 (imageStride layout d)) E.SizeOverflow  -- 25
     ∷ refuse-if (reaches-2^64 (imageBytes layout d)) E.SizeOverflow  -- 25
     ∷ refuse-if (reaches-2^64 (totalBytes layout d)) E.SizeOverflow  -- 25

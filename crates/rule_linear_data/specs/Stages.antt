@@ -34,7 +34,7 @@ placed layout bufferSize side d s =
 unfoldable pub measured : TexelCopyBufferLayout → ℕ → CopySide → Dense → ℕ → ℕ → LinearChecked
 measured layout bufferSize side d rowStride imageRows =
     below-2^64 (imageRows * rowStride) λ imageStride.
-    below-2^64 (stacked (d .rows) rowStride (d .«row_bytes»)) λ imageBytes.
+    below-2^64 (stacked (d .rows .0) rowStride (d .«row_bytes»)) λ imageBytes.
     below-2^64 (stacked (d .images) imageStride imageBytes) λ total.
     placed layout bufferSize side d (spanOf rowStride imageStride imageBytes total)
 
@@ -42,5 +42,5 @@ measured layout bufferSize side d rowStride imageRows =
 unfoldable pub linearStaged : TexelCopyBufferLayout → ℕ → CopySide → Dense → LinearChecked
 linearStaged layout bufferSize side d =
     stop-if (isBelow (layout .«bytes_per_row») (d .«row_bytes»)) (Refused E.InvalidBytesPerRow) $
-    stop-if (isBelow (layout .«rows_per_image») (d .rows)) (Refused E.InvalidRowsPerImage) $
+    stop-if (isBelow (layout .«rows_per_image») (d .rows .0)) (Refused E.InvalidRowsPerImage) $
     measured layout bufferSize side d (rowStride layout d) (imageRows layout d)

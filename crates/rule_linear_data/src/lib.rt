@@ -6,9 +6,9 @@ ghost use Rattle.rule_linear_data.specs.Stages.{fitting, placed, measure
 ghost use Rattle.formats.specs.Laws.{maxBlockBytes};
 ghost use Rattle.rule_linear_data.specs.Laws.{EveryLinear};
 use formats::TextureAspect;
+use measures::Blocks;
 use measures::Extent3d;
 use measures::OptionU32;
-use measures::Texels;
 use records::TexelCopyBufferLayout;
 use refusals::CopySide;
 use refusals::TransferError;
@@ -22,7 +22,7 @@ pub enum Whole {
 // What is copied, with nothing between rows: the bytes of a row, the rows of blocks, the images.
 pub struct Dense {
     pub row_bytes: u64,
-    pub rows: u64,
+    pub rows: Blocks,
     pub images: u64,
 }
 
@@ -101,7 +101,7 @@ fn is_lacking(value: OptionU32, needed: bool) -> bool
 fn several_rows(d: Dense) -> bool
     ensures { λ r. ⌜ r ≡ severalRows d ⌝ }
 {
-    conditions::either(d.images > 1, d.rows > 1)
+    conditions::either(d.images > 1, d.rows.0 > 1)
 }
 
 fn several_images(d: Dense) -> bool
@@ -191,7 +191,7 @@ fn measure(
     let Whole::Fits(image_stride) = stride else {
         return LinearChecked::Refused(TransferError::SizeOverflow);
     };
-    let image = stacked(d.rows, row_stride, d.row_bytes);
+    let image = stacked(d.rows.0 as u64, row_stride, d.row_bytes);
     let Whole::Fits(image_bytes) = image else {
         return LinearChecked::Refused(TransferError::SizeOverflow);
     };
@@ -225,7 +225,7 @@ fn measure_given(
     let bytes_per_row = layout.bytes_per_row;
     let rows_per_image = layout.rows_per_image;
     let row_stride = measures::or_else(bytes_per_row, d.row_bytes);
-    let image_rows = measures::or_else(rows_per_image, d.rows);
+    let image_rows = measures::or_else(rows_per_image, d.rows.0 as u64);
     measure(layout, buffer_size, side, d, row_stride, image_rows)
 }
 
@@ -242,7 +242,7 @@ fn check_linear(
     if is_below(bytes_per_row, d.row_bytes) {
         return LinearChecked::Refused(TransferError::InvalidBytesPerRow);
     }
-    if is_below(rows_per_image, d.rows) {
+    if is_below(rows_per_image, d.rows.0 as u64) {
         return LinearChecked::Refused(TransferError::InvalidRowsPerImage);
     }
     measure_given(layout, buffer_size, side, d)
@@ -259,11 +259,15 @@ fn dense_of(format: u32, aspect: TextureAspect, size: Extent3d) -> Dense
     ensures { λ r. ⌜ r ≡ denseOf format aspect size ⌝ }
 {
     let block = formats::block_dimensions(format);
-    let width_blocks = Texels(size.width).in_blocks(block.width);
-    let height_blocks = Texels(size.height).in_blocks(block.height);
+    let width = size.width;
+    let height = size.height;
+    let block_width_texels = block.width;
+    let block_height_texels = block.height;
+    let width_blocks = width.in_blocks(block_width_texels);
+    let height_blocks = height.in_blocks(block_height_texels);
     Dense {
         row_bytes: (width_blocks.0 as u64) * block_bytes(format, aspect),
-        rows: height_blocks.0 as u64,
+        rows: height_blocks,
         images: size.depth_or_array_layers as u64,
     }
 }

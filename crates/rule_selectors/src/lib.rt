@@ -89,9 +89,11 @@ fn base_of(view: TexelCopyTextureInfo, t: Texture, aspect: FormatAspects) -> Tex
 {
     let origin = view.origin;
     let dimension = mip_levels::texture_dimension(t.dimension);
+    let x = origin.x;
+    let y = origin.y;
     let start = Origin3d {
-        x: origin.x,
-        y: origin.y,
+        x,
+        y,
         z: z_of(dimension, origin.z),
     };
     TextureCopyBase {

@@ -9,6 +9,7 @@ use Rattle.measures.specs.declared.OptionU32.{OptionU32}
 use Rattle.measures.specs.declared.OptionU32.the-variants as O
 use Rattle.measures.specs.declared.OptionU64.{OptionU64}
 use Rattle.measures.specs.declared.OptionU64.the-variants as L
+use Rattle.measures.specs.Measure.{texels}
 use Rattle.formats.specs.Aspects.{aspectOf}
 use Rattle.records.specs.declared.Buffer.{Buffer}
 use Rattle.records.specs.declared.Device.{Device}
@@ -32,10 +33,10 @@ unfoldable pub sizeOf : Line → OptionU64
 sizeOf l = pick (l .gone) L.Absent (L.Given (valueOf l 5))
 
 unfoldable pub extentOf : Line → ℕ → Extent3d
-extentOf l i = record { width = wordOf l i; height = wordOf l (i + 1); «depth_or_array_layers» = wordOf l (i + 2) }
+extentOf l i = record { width = texels (wordOf l i); height = texels (wordOf l (i + 1)); «depth_or_array_layers» = wordOf l (i + 2) }
 
 unfoldable pub originOf : Line → ℕ → Origin3d
-originOf l i = record { x = wordOf l i; y = wordOf l (i + 1); z = wordOf l (i + 2) }
+originOf l i = record { x = texels (wordOf l i); y = texels (wordOf l (i + 1)); z = wordOf l (i + 2) }
 
 -- ---- records
 

@@ -8,6 +8,7 @@ use measures::Extent3d;
 use measures::OptionU32;
 use measures::OptionU64;
 use measures::Origin3d;
+use measures::Texels;
 use records::Buffer;
 use records::Device;
 use records::TexelCopyBufferLayout;
@@ -55,8 +56,8 @@ pub fn extent_of(l: Line, i: usize) -> Extent3d
     ensures { λ r. ⌜ r ≡ extentOf l i ⌝ }
 {
     Extent3d {
-        width: word_of(l, i),
-        height: word_of(l, i + 1),
+        width: Texels(word_of(l, i)),
+        height: Texels(word_of(l, i + 1)),
         depth_or_array_layers: word_of(l, i + 2),
     }
 }
@@ -66,8 +67,8 @@ fn origin_of(l: Line, i: usize) -> Origin3d
     ensures { λ r. ⌜ r ≡ originOf l i ⌝ }
 {
     Origin3d {
-        x: word_of(l, i),
-        y: word_of(l, i + 1),
+        x: Texels(word_of(l, i)),
+        y: Texels(word_of(l, i + 1)),
         z: word_of(l, i + 2),
     }
 }

@@ -7,4 +7,4 @@ use Rattle.plan_textures.proofs.base_as.Tie as tie
 
 pub base-as-spec : {M : Type 1} → statement M
 unfolding baseAs
-base-as-spec = tie.close (tie.spec (λ c. search needs) (λ c. search needs) (λ c. cc))
+base-as-spec = tie.close (tie.spec (λ c κs. search needs) (λ c κs. search needs) (λ c. cc))

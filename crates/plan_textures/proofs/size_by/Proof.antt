@@ -7,4 +7,4 @@ use Rattle.plan_textures.proofs.size_by.Tie as tie
 
 pub size-by-spec : {M : Type 1} → statement M
 unfolding sizeBy
-size-by-spec = tie.close (tie.spec (λ c. search needs) (λ c. search needs) (λ c. cc))
+size-by-spec = tie.close (tie.spec (λ c κs. search needs) (λ c κs. search needs) (λ c. cc))

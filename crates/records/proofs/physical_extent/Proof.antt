@@ -3,7 +3,6 @@
 use Prim.Native.Nat.{_≤_}
 use native.Mathlib.Omega.{arith}
 use borrow.Author.Needs.{needs}
-use Rattle.formats.proofs.Rows.{every-format}
 use Rattle.records.specs.Extents.{logicalExtent, physicalExtent}
 use Rattle.records.specs.Limits.{maxSide}
 use Rattle.records.proofs.Bounded.{texture-laws}
@@ -14,9 +13,9 @@ physical-size-requires : tie.Need-physical-size-requires
 physical-size-requires c κs =
     let s = c .before .before in
     let e = texture-laws (s .args .t) (s .pre) .level-sized (s .args .level) in
-    let block = every-format (s .args .t .format) in
-    let width : c .logical-extent .result .width ≤ maxSide = rw (c .logical-extent .ensures) (e .width-few) in
-    let height : c .logical-extent .result .height ≤ maxSide = rw (c .logical-extent .ensures) (e .height-few) in
+    let logical = c .before .logical-extent in
+    let width : logical .result .width .0 ≤ maxSide = rw (logical .ensures) (e .width-few) in
+    let height : logical .result .height .0 ≤ maxSide = rw (logical .ensures) (e .height-few) in
     omega arith
 
 pub physical-extent-spec : {M : Type 1} → statement M

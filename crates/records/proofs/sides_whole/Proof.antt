@@ -1,8 +1,6 @@
 -- `sides_whole` meets its contract.
 -- Assumes nothing.
-use native.Mathlib.Omega.{arith}
 use borrow.Author.Needs.{needs}
-use Rattle.formats.proofs.Rows.{every-format}
 use Rattle.records.specs.Bounds.{sidesWhole}
 use Rattle.records.proofs.sides_whole.Statement.{statement}
 use Rattle.records.proofs.sides_whole.Tie as tie
@@ -10,5 +8,4 @@ use Rattle.records.proofs.sides_whole.Tie as tie
 pub sides-whole-spec : {M : Type 1} → statement M
 unfolding sidesWhole
 sides-whole-spec =
-    tie.close
-    (tie.spec (λ c κs. search needs) (λ c κs. omega (arith, every-format (c .before .args .format))) (λ c κs. omega (arith, every-format (c .before .before .args .format))) (λ c κs. search needs) (λ c. cc))
+    tie.close (tie.spec (λ c κs. search needs) (λ c κs. search needs) (λ c κs. search needs) (λ c κs. search needs) (λ c. cc))

@@ -2,7 +2,6 @@
 -- Assumes nothing.
 use native.Mathlib.Omega.{arith}
 use borrow.Author.Needs.{needs}
-use Rattle.formats.proofs.Rows.{every-format}
 use Rattle.rule_copy_range.specs.Inside.{alignmentFits}
 use Rattle.rule_copy_range.proofs.alignment_fits.Statement.{statement}
 use Rattle.rule_copy_range.proofs.alignment_fits.Tie as tie
@@ -11,4 +10,4 @@ pub alignment-fits-spec : {M : Type 1} → statement M
 unfolding alignmentFits
 alignment-fits-spec =
     tie.close
-    (tie.spec (λ c κs. search needs) (λ c κs. omega (arith, every-format (c .before .before .args .t .format))) (λ c. cc))
+    (tie.spec (λ c κs. search needs) (λ c κs. omega arith) (λ c. cc))

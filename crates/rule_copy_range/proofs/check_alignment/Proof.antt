@@ -2,11 +2,10 @@
 -- Assumes nothing.
 use native.Mathlib.Omega.{arith}
 use borrow.Author.Needs.{needs}
-use Rattle.formats.proofs.Rows.{every-format}
 use Rattle.rule_copy_range.proofs.check_alignment.Statement.{statement}
 use Rattle.rule_copy_range.proofs.check_alignment.Tie as tie
 
 pub check-alignment-spec : {M : Type 1} → statement M
 check-alignment-spec =
     tie.close
-    (tie.spec (λ c κs. search needs) (λ c κs. omega (arith, every-format (c .before .before .args .t .format))) (λ c. cc))
+    (tie.spec (λ c κs. search needs) (λ c κs. omega arith) (λ c. cc))

@@ -8,4 +8,5 @@ use Rattle.rule_init_ranges.proofs.size_differs.Tie as tie
 pub size-differs-spec : {M : Type 1} → statement M
 unfolding sizeDiffers
 size-differs-spec =
-    tie.close (tie.spec (λ c κs. search needs) (λ c κs. search needs) (λ c κs. search needs) (λ c. cc))
+    tie.close
+    (tie.spec (λ c κs. search needs) (λ c κs. search needs) (λ c κs. search needs) (λ c κs. search needs) (λ c κs. search needs) (λ c. cc))

@@ -10,4 +10,4 @@ pub check-linear-spec : {M : Type 1} → statement M
 unfolding linearStaged
 check-linear-spec =
     tie.close
-    (tie.spec (λ c κs. search needs) (λ c. search sizes depth 8) (λ c κs. search needs) (λ c. search sizes depth 8) (λ c κs. search needs) (λ c. search sizes depth 8))
+    (tie.spec (λ c κs. search needs) (λ c. search sizes depth 8) (λ c. search needs) (λ c κs. search needs) (λ c. search sizes depth 8) (λ c κs. search needs) (λ c. search sizes depth 8))

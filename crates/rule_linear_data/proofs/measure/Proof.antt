@@ -10,4 +10,4 @@ pub measure-spec : {M : Type 1} → statement M
 unfolding measured
 measure-spec =
     tie.close
-    (tie.spec (λ c κs. search needs) (λ c. search needs) (λ c. search needs) (λ c. search sizes depth 8) (λ c κs. search needs) (λ c. search needs) (λ c. search needs) (λ c. search sizes depth 8) (λ c κs. search needs) (λ c. search needs) (λ c. search needs) (λ c. search sizes depth 8) (λ c κs. search needs) (λ c. search sizes depth 8))
+    (tie.spec (λ c κs. search needs) (λ c. search needs) (λ c. search needs) (λ c. search sizes depth 8) (λ c. search needs) (λ c κs. search needs) (λ c. search needs) (λ c. search needs) (λ c. search sizes depth 8) (λ c κs. search needs) (λ c. search needs) (λ c. search needs) (λ c. search sizes depth 8) (λ c κs. search needs) (λ c. search sizes depth 8))
