@@ -89,7 +89,7 @@ pub front-none : (l : List ℕ) (at : ℕ) (t : List ℕ) → length l ≤ at �
 front-none l at t h = let z : length l - at ≡ 0 = omega arith in rw z refl
 
 pub front-some : (l m t : List ℕ) (at n r : ℕ) → n ≡ min (length l - at) (length t) → Put l m at (take n t) r → m ≡ frontPut l at t
-front-some l m t at n r is put = put .bytes ∙ ap (λ (x : List ℕ). sets l at x) (take-least (length l - at) t n is)
+front-some l m t at n r is put = put .numbers ∙ ap (λ (x : List ℕ). sets l at x) (take-least (length l - at) t n is)
 
 pub least-fits : (k n : ℕ) (t : List ℕ) → n ≡ min k (length t) → n ≡ length (take n t)
 least-fits k n t is = sym (length-take-le n t (omega (arith, is)))

@@ -12,7 +12,7 @@ use Rattle.sheet_sections.specs.declared.Parts.{Parts}
 use Rattle.sheet_sections.specs.declared.Sheet.the-variants.{Good}
 use Rattle.sheet_sections.specs.Rows.{textures, copies, sectionLine, placesOf}
 use Rattle.sheet_sections.specs.Sheet.{sheetOf}
-use Rattle.copy_kinds.specs.Requests.{plannedTextures}
+use Rattle.copy_kinds.specs.Planned.{plannedTextures}
 use Rattle.sheet_records.specs.Records.{wordOf, extentOf}
 use Rattle.sheet_copies.specs.CopyLines.{textureSideAt, linePlanned}
 use Rattle.sheet_listing.specs.Listing.{listingOf}

@@ -25,7 +25,7 @@ use Rattle.sheet_text.specs.Text.{lineText}
 use Rattle.plan_kinds.specs.Regions.{leftOf}
 use Rattle.copy_kinds.specs.declared.Planned.{Planned}
 use Rattle.copy_kinds.specs.declared.Planned.the-variants as P
-use Rattle.copy_kinds.specs.Requests.{ofBuffers, ofBufferTexture, ofTextures}
+use Rattle.copy_kinds.specs.Planned.{ofBuffers, ofBufferTexture, ofTextures}
 use Rattle.sheet_fields.specs.declared.Line.{Line}
 use Rattle.sheet_sections.specs.declared.Parts.{Parts}
 use Rattle.sheet_sections.specs.Rows.{copies, sectionLine}

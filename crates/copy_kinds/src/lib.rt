@@ -1,7 +1,7 @@
 // A copy of any of the four kinds, with the records that it names: its plan and ranges, or its refusal.
 ghost use mathlib.Core.Path.{_≡_};
 ghost use mathlib.Core.List.{[]};
-ghost use Rattle.copy_kinds.specs.Requests.{ofBuffers, ofBufferTexture, ofTextures, plannedBuffers, plannedUpload, plannedDownload, plannedTextures};
+ghost use Rattle.copy_kinds.specs.Planned.{ofBuffers, ofBufferTexture, ofTextures, plannedBuffers, plannedUpload, plannedDownload, plannedTextures};
 ghost use Prim.Native.Nat.{_≤_};
 ghost use Rattle.copy_kinds.specs.Ranges.{bufferSlot, noRanges, bufferRanges, textureAndBuffer, copyRanges, twoTextures, textureRanges, slotCount, countOf};
 use copy_buffer_texture::BufferTexturePlanned;

@@ -99,7 +99,7 @@ module _ {l₀ l : List ℕ} {p₀ p : Plan} {at : ℕ} (u : Underway l₀ l p�
           room = rw (behind-fields p, less) (omega (arith, numbers-count p h, one-of, u .room, o .next, put-length o));
           same = put-length o ∙ u .same;
           plan = sym b ∙ u .plan;
-          slots = rw (o .next, o .bytes) (sym (sets-append (numbersOf p) (numbersLeft (behindOf p)) l at) ∙ sym (ap (λ (ns : List ℕ). sets l at ns) f) ∙ u .slots);
+          slots = rw (o .next, o .numbers) (sym (sets-append (numbersOf p) (numbersLeft (behindOf p)) l at) ∙ sym (ap (λ (ns : List ℕ). sets l at ns) f) ∙ u .slots);
         })
 
 pub ended : {l₀ l : List ℕ} {p₀ p : Plan} {at : ℕ} → Underway l₀ l p₀ p at → leftOf p ≤ 0 → (p ≡ behindAll (leftOf p₀) p₀) × (l ≡ sets l₀ 0 (numbersLeft p₀))

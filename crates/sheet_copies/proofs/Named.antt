@@ -13,7 +13,7 @@ use Rattle.records.specs.declared.TextureSide.{TextureSide}
 use Rattle.records.specs.declared.TexelCopyTextureInfo.{TexelCopyTextureInfo}
 use Rattle.records.specs.declared.TexelCopyBufferLayout.{TexelCopyBufferLayout}
 use Rattle.copy_kinds.specs.declared.Planned.{Planned}
-use Rattle.copy_kinds.specs.Requests.{plannedBuffers, plannedUpload, plannedDownload, plannedTextures}
+use Rattle.copy_kinds.specs.Planned.{plannedBuffers, plannedUpload, plannedDownload, plannedTextures}
 use Rattle.sheet_fields.specs.declared.Line.{Line}
 use Rattle.sheet_records.specs.Records.{valueOf, wordOf, sizeOf, extentOf, viewOf, layoutOf}
 use Rattle.sheet_copies.specs.CopyLines.{textureAt, bufferAt, textureSideAt, namedBuffers, namedCopy, namedTextures, buffersPlanned, copyPlanned, texturesPlanned, linePlanned}

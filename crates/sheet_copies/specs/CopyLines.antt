@@ -13,7 +13,7 @@ use Rattle.records.specs.declared.Texture.{Texture}
 use Rattle.records.specs.declared.TextureSide.{TextureSide}
 use Rattle.copy_kinds.specs.declared.Planned.{Planned}
 use Rattle.copy_kinds.specs.declared.Planned.the-variants as P
-use Rattle.copy_kinds.specs.Requests.{plannedBuffers, plannedUpload, plannedDownload, plannedTextures}
+use Rattle.copy_kinds.specs.Planned.{plannedBuffers, plannedUpload, plannedDownload, plannedTextures}
 use Rattle.sheet_fields.specs.declared.Line.{Line}
 use Rattle.sheet_sections.specs.Rows.{textures, buffers, sectionLine}
 use Rattle.sheet_records.specs.Records.{valueOf, wordOf, sizeOf, extentOf, textureOf, bufferOf, viewOf, layoutOf}

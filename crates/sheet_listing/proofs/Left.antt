@@ -166,7 +166,7 @@ module _ {s ts bs : List ℕ} {first st : Lister} {l₀ l : List ℕ} {at : ℕ}
     nothing e = omega (arith, put .next)
 
     unmoved : next ≡ at → m ≡ l
-    unmoved e = put .bytes ∙ empty (pieceOf s ts bs st) (nothing e)
+    unmoved e = put .numbers ∙ empty (pieceOf s ts bs st) (nothing e)
       where
         empty : (t : List ℕ) → length t ≡ 0 → sets l at t ≡ l
         empty [] z = refl

@@ -18,13 +18,13 @@ sets-append (x ∷ a) b l i =
 
 module _ {l m : List ℕ} {at : ℕ} {a : List ℕ} {r : ℕ} (p : Put l m at a r) where
   pub put-length : length m ≡ length l
-  put-length = rw (p .bytes) (length-sets l at a)
+  put-length = rw (p .numbers) (length-sets l at a)
 
   pub put-then : {k : List ℕ} {b : List ℕ} {q : ℕ} → Put m k r b q → Put l k at (a ++ b) q
   put-then {k} {b} {q} o =
       record {
         next = rw (o .next, p .next, length-append a b) (omega arith);
-        bytes = rw (o .bytes, p .bytes, p .next) (sym (sets-append a b l at));
+        numbers = rw (o .numbers, p .numbers, p .next) (sym (sets-append a b l at));
       }
 
   pub put-as : {b : List ℕ} → a ≡ b → Put l m at b r
@@ -34,21 +34,21 @@ module _ {l m : List ℕ} {at : ℕ} {a : List ℕ} {r : ℕ} (p : Put l m at a 
 pub put-take : {l m : List ℕ} {at : ℕ} {t : List ℕ} {r : ℕ} → Put l m at t r → at + length t ≤ length l → take r m ≡ take at l ++ t
 put-take {l} {m} {at} {t} p h =
     let e : length (take at l ++ t) ≡ at + length t = rw (length-append (take at l) t, length-take-le at l (omega arith)) in
-    rw (p .next, p .bytes, sets-eq t l at h) (take-at (take at l ++ t) (drop (at + length t) l) (at + length t) e)
+    rw (p .next, p .numbers, sets-eq t l at h) (take-at (take at l ++ t) (drop (at + length t) l) (at + length t) e)
 
 pub put-none : (l : List ℕ) (at : ℕ) → Put l l at [] at
-put-none l at = record { next = omega arith; bytes = refl }
+put-none l at = record { next = omega arith; numbers = refl }
 
 pub put-one : (l : List ℕ) (at x : ℕ) → Put l (set l at x) at (x ∷ []) (at + 1)
-put-one l at x = record { next = refl; bytes = refl }
+put-one l at x = record { next = refl; numbers = refl }
 
 -- ---- one by one
 
-pub bytes-on : (l w : List ℕ) (at i : ℕ) → i < length w → sets (set l (at + i) (getD w i 0)) (at + (i + 1)) (drop (i + 1) w) ≡ sets l (at + i) (drop i w)
-bytes-on l w at i h = let e : at + (i + 1) ≡ suc (at + i) = omega arith in rw (e, add-one i, drop-cons w i 0 h)
+pub numbers-on : (l w : List ℕ) (at i : ℕ) → i < length w → sets (set l (at + i) (getD w i 0)) (at + (i + 1)) (drop (i + 1) w) ≡ sets l (at + i) (drop i w)
+numbers-on l w at i h = let e : at + (i + 1) ≡ suc (at + i) = omega arith in rw (e, add-one i, drop-cons w i 0 h)
 
-pub bytes-all : (l w : List ℕ) (at i : ℕ) → length w ≤ i → l ≡ sets l (at + i) (drop i w)
-bytes-all l w at i h = rw (drop-of-length-le w h)
+pub numbers-all : (l w : List ℕ) (at i : ℕ) → length w ≤ i → l ≡ sets l (at + i) (drop i w)
+numbers-all l w at i h = rw (drop-of-length-le w h)
 
 pub put-laws : PutLaws
 put-laws =

@@ -8,4 +8,4 @@ use lib.Seq.{sets}
 -- m is l but for the numbers ns, which stand at a place; r is the place behind them
 pub record Put (l m : List ℕ) (at : ℕ) (ns : List ℕ) (r : ℕ) : Type 0 where
   pub next : r ≡ at + length ns
-  pub bytes : m ≡ sets l at ns
+  pub numbers : m ≡ sets l at ns

@@ -1,7 +1,7 @@
 -- `of_buffer_texture` meets its contract.
 -- Assumes nothing.
 use mathlib.Core.Path.{sym, ap, _∙_}
-use Rattle.copy_kinds.specs.Requests.{ofBufferTexture}
+use Rattle.copy_kinds.specs.Planned.{ofBufferTexture}
 use Rattle.copy_kinds.proofs.Rules.{ranges-alike}
 use borrow.Author.Needs.{needs}
 use Rattle.copy_kinds.proofs.of_buffer_texture.Statement.{statement}

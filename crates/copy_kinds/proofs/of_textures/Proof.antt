@@ -1,7 +1,7 @@
 -- `of_textures` meets its contract.
 -- Assumes nothing.
 use mathlib.Core.Path.{sym, ap, _∙_}
-use Rattle.copy_kinds.specs.Requests.{ofTextures}
+use Rattle.copy_kinds.specs.Planned.{ofTextures}
 use Rattle.copy_kinds.proofs.Rules.{ranges-alike}
 use borrow.Author.Needs.{needs}
 use Rattle.copy_kinds.proofs.of_textures.Statement.{statement}

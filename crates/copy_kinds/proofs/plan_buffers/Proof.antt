@@ -1,7 +1,7 @@
 -- `plan_buffers` meets its contract.
 -- Assumes nothing.
 use mathlib.Core.Path.{ap, _∙_}
-use Rattle.copy_kinds.specs.Requests.{ofBuffers}
+use Rattle.copy_kinds.specs.Planned.{ofBuffers}
 use borrow.Author.Needs.{needs}
 use Rattle.copy_kinds.proofs.plan_buffers.Statement.{statement}
 use Rattle.copy_kinds.proofs.plan_buffers.Tie as tie

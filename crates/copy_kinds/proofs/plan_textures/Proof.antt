@@ -1,7 +1,7 @@
 -- `plan_textures` meets its contract.
 -- Assumes nothing.
 use mathlib.Core.Path.{ap, _∙_}
-use Rattle.copy_kinds.specs.Requests.{ofTextures}
+use Rattle.copy_kinds.specs.Planned.{ofTextures}
 use borrow.Author.Needs.{needs}
 use Rattle.copy_kinds.proofs.plan_textures.Statement.{statement}
 use Rattle.copy_kinds.proofs.plan_textures.Tie as tie

@@ -7,7 +7,7 @@ use borrow.Author.Needs.{needs}
 use lib.ListN.{length, length-set, drop}
 use lib.Seq.{sets}
 use denote.Ref.{now}
-use Rattle.slices.proofs.Puts.{bytes-on, bytes-all}
+use Rattle.slices.proofs.Puts.{numbers-on, numbers-all}
 use Rattle.sheet_text.proofs.put_bytes.Statement.{statement}
 use Rattle.sheet_text.proofs.put_bytes.Tie as tie
 
@@ -24,10 +24,10 @@ loop-again : tie.Need-loop-again Inv-loop μ-loop
 loop-again c =
     let w = c .before in
     let l = w .before .loop in
-    (bytes-on (l .out) _ _ (l .i) (w .loop-test .taken) ∙ l .inv .0, simp length-set (l .inv .1))
+    (numbers-on (l .out) _ _ (l .i) (w .loop-test .taken) ∙ l .inv .0, simp length-set (l .inv .1))
 
 returns : tie.Need-returns Inv-loop μ-loop
-returns c = let l = c .before .loop in record { next = refl; bytes = bytes-all (l .out) _ _ (l .i) (c .loop-test .left) ∙ l .inv .0 }
+returns c = let l = c .before .loop in record { next = refl; numbers = numbers-all (l .out) _ _ (l .i) (c .loop-test .left) ∙ l .inv .0 }
 
 pub put-bytes-spec : {M : Type 1} → statement M
 put-bytes-spec =
