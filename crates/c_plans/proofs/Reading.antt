@@ -22,7 +22,7 @@ use Rattle.plan_textures.specs.declared.CopyParts.the-variants.{Whole, DepthSte
 use Rattle.plan_textures.specs.declared.TextureRanges.the-variants as X
 use Rattle.plan_kinds.specs.declared.Plan.{Plan}
 use Rattle.plan_kinds.specs.declared.Plan.the-variants.{Buffers, BufferTexture, Textures}
-use Rattle.plan_kinds.specs.Regions.{leftOf, numbersOf, behindOf, regionsFrom, regionsLeft}
+use Rattle.plan_kinds.specs.Regions.{leftOf, regionNumbers, behindOf, regionsFrom, regionsLeft}
 use Rattle.plan_kinds.proofs.Ranges.{numbers-with, behind-with}
 use Rattle.c_words.specs.Words.{partsNumber, bufferWords, bufferTextureWords, textureWords}
 use Rattle.c_plans.specs.PlanWords.{low, optionFrom, partsFrom, baseFrom, extentFrom, buffersFrom, bufferTextureFrom, texturesFrom}
@@ -82,16 +82,16 @@ left-bare (Buffers p) = refl
 left-bare (BufferTexture p) = refl
 left-bare (Textures p) = refl
 
-numbers-bare : (p : Plan) → numbersOf (withoutRanges p) ≡ numbersOf p
-unfolding numbersOf withoutRanges K.nextOf L.nextOf stop-if
+numbers-bare : (p : Plan) → regionNumbers (withoutRanges p) ≡ regionNumbers p
+unfolding regionNumbers withoutRanges K.nextOf L.nextOf stop-if
 numbers-bare (Buffers p) = by (eqb (p .left) 0) refl
   where
-    by : (t : Bool) → eqb (p .left) 0 ≡ t → numbersOf (withoutRanges (Buffers p)) ≡ numbersOf (Buffers p)
+    by : (t : Bool) → eqb (p .left) 0 ≡ t → regionNumbers (withoutRanges (Buffers p)) ≡ regionNumbers (Buffers p)
     by true e = rw e
     by false e = rw e
 numbers-bare (BufferTexture p) = by (eqb (p .left) 0) refl
   where
-    by : (t : Bool) → eqb (p .left) 0 ≡ t → numbersOf (withoutRanges (BufferTexture p)) ≡ numbersOf (BufferTexture p)
+    by : (t : Bool) → eqb (p .left) 0 ≡ t → regionNumbers (withoutRanges (BufferTexture p)) ≡ regionNumbers (BufferTexture p)
     by true e = rw e
     by false e = rw e
 numbers-bare (Textures p) = numbers-with X.Absent p

@@ -2,6 +2,7 @@
 use Prim.Native.Nat.{ℕ}
 use mathlib.Core.Bool.{Bool, false}
 use mathlib.Core.List.{List}
+use lib.Dec.{ltb}
 use lib.ListN.{getD}
 use Rattle.conditions.specs.Conditions.{pick}
 use Rattle.measures.specs.declared.Extent3d.{Extent3d}
@@ -10,11 +11,16 @@ use Rattle.measures.specs.declared.OptionU32.the-variants as W
 use Rattle.measures.specs.declared.OptionU64.{OptionU64}
 use Rattle.measures.specs.declared.OptionU64.the-variants as L
 use Rattle.measures.specs.Measure.{texels}
+use Rattle.formats.specs.declared.TextureAspect.the-variants.{Plane2}
+use Rattle.formats.specs.Aspects.{lastAspect, aspectOf}
+use Rattle.refusals.specs.declared.TransferError.{TransferError}
+use Rattle.refusals.specs.declared.TransferError.the-variants.{InvalidTextureAspect}
+use Rattle.refusals.specs.Order.{refuse-if}
 use Rattle.records.specs.declared.Buffer.{Buffer}
+use Rattle.records.specs.declared.Device.{Device}
 use Rattle.records.specs.declared.Texture.{Texture}
 use Rattle.records.specs.declared.TexelCopyTextureInfo.{TexelCopyTextureInfo}
 use Rattle.records.specs.declared.TexelCopyBufferLayout.{TexelCopyBufferLayout}
-use Rattle.formats.specs.Aspects.{aspectOf}
 
 -- a number, where it is given
 abbrev pub given : Bool → ℕ → OptionU32
@@ -55,3 +61,11 @@ viewFrom v =
 -- width, height, depth or layers
 unfoldable pub sizeFrom : List ℕ → Extent3d
 sizeFrom s = record { width = texels (getD s 0 0); height = texels (getD s 1 0); «depth_or_array_layers» = getD s 2 0 }
+
+-- the device of a copy with a texture, by the fact that it asks for
+abbrev pub deviceWith : Bool → Device
+deviceWith depth = record { «depth_texture_and_buffer_copies» = depth; «unrestricted_index_buffer» = false }
+
+-- a number past the aspects names none, of the texture t: 12
+abbrev pub aspectCheck : List ℕ → List ℕ → List TransferError
+aspectCheck t v = refuse-if (ltb lastAspect (getD v 4 0)) (InvalidTextureAspect (getD t 0 0) Plane2)

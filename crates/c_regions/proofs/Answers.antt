@@ -11,7 +11,7 @@ use Rattle.flags.specs.FormatAspects.{PLANE-0, PLANE-1}
 use Rattle.plan_kinds.specs.declared.Plan.{Plan}
 use Rattle.plan_kinds.specs.Regions.{leftOf, fieldsOf}
 use Rattle.plan_writer.specs.Writing.{numbersLeft, behindAll, fits, slotsOf}
-use Rattle.c_regions.specs.Regions.{wordsOf, word, leftIn, ifLeft, nextNumber, bufferTextureBehind, withAspects, halved, depthOrStencil, textureRegion, partFollows, partOn, writtenNumber, writtenWords}
+use Rattle.c_regions.specs.Regions.{wordsOf, wordAt, leftIn, ifLeft, nextNumber, bufferTextureBehind, withAspects, chromaHalved, depthOrStencil, textureRegion, partFollows, partOn, writtenNumber, writtenWords}
 use Rattle.c_regions.proofs.Stores.{own-aspects}
 
 -- ---- the next region, where the code counted n regions left
@@ -28,40 +28,40 @@ module _ (w region zeros behind : List ℕ) (n : ℕ) (is : n ≡ leftIn w) wher
 -- ---- the words behind it
 
 pub layer-behind :
-    (w : List ℕ) (n offset layer : ℕ) → n ≡ leftIn w → offset ≡ (word (set w 0 (n - 1)) 3 + word (set w 0 (n - 1)) 2) % 2 ^ 64
-    → layer ≡ (word (set (set w 0 (n - 1)) 3 offset) 7 + 1) % 2 ^ 32 → set (set (set w 0 (n - 1)) 3 offset) 7 layer ≡ bufferTextureBehind w
+    (w : List ℕ) (n offset layer : ℕ) → n ≡ leftIn w → offset ≡ (wordAt (set w 0 (n - 1)) 3 + wordAt (set w 0 (n - 1)) 2) % 2 ^ 64
+    → layer ≡ (wordAt (set (set w 0 (n - 1)) 3 offset) 7 + 1) % 2 ^ 32 → set (set (set w 0 (n - 1)) 3 offset) 7 layer ≡ bufferTextureBehind w
 unfolding bufferTextureBehind
 layer-behind w n offset layer is sum next = rw (next, sum, is)
 
 module _ (w : List ℕ) (follows : Bool) where
-  pub other-part : follows ≡ partFollows (word w 1) (word w 2) → follows ≡ true → set w 2 1 ≡ partOn w
+  pub other-part : follows ≡ partFollows (wordAt w 1) (wordAt w 2) → follows ≡ true → set w 2 1 ≡ partOn w
   unfolding partOn
   other-part is h = rw (sym is ∙ h)
 
   pub other-layer :
-      (source destination : ℕ) → follows ≡ partFollows (word w 1) (word w 2) → follows ≡ false → source ≡ (word (set w 2 0) 4 + 1) % 2 ^ 32
-      → destination ≡ (word (set (set w 2 0) 4 source) 10 + 1) % 2 ^ 32 → set (set (set w 2 0) 4 source) 10 destination ≡ partOn w
+      (source destination : ℕ) → follows ≡ partFollows (wordAt w 1) (wordAt w 2) → follows ≡ false → source ≡ (wordAt (set w 2 0) 4 + 1) % 2 ^ 32
+      → destination ≡ (wordAt (set (set w 2 0) 4 source) 10 + 1) % 2 ^ 32 → set (set (set w 2 0) 4 source) 10 destination ≡ partOn w
   unfolding partOn
   other-layer source destination is h s d = rw (sym is ∙ h, d, s)
 
 -- ---- a region between textures
 
 module _ (w r : List ℕ) where
-  pub whole : r ≡ withAspects (word w 8) (word w 14) (drop 3 w) → word w 1 ≡ 0 → r ≡ textureRegion w
+  pub whole : r ≡ withAspects (wordAt w 8) (wordAt w 14) (drop 3 w) → wordAt w 1 ≡ 0 → r ≡ textureRegion w
   unfolding textureRegion
-  whole e h = rw (eq-eqb (word w 1) 0 h) (e ∙ own-aspects w)
+  whole e h = rw (eq-eqb (wordAt w 1) 0 h) (e ∙ own-aspects w)
 
-  pub depth-stencil : (aspects : ℕ) → r ≡ withAspects aspects aspects (drop 3 w) → aspects ≡ depthOrStencil (word w 2) → (word w 1 ≡ 0 → ⊥) → word w 1 ≡ 1 → r ≡ textureRegion w
+  pub depth-stencil : (aspects : ℕ) → r ≡ withAspects aspects aspects (drop 3 w) → aspects ≡ depthOrStencil (wordAt w 2) → (wordAt w 1 ≡ 0 → ⊥) → wordAt w 1 ≡ 1 → r ≡ textureRegion w
   unfolding textureRegion
-  depth-stencil aspects e is parted h = rw (ne-eqb (word w 1) 0 parted, eq-eqb (word w 1) 1 h, ← is) e
+  depth-stencil aspects e is parted h = rw (ne-eqb (wordAt w 1) 0 parted, eq-eqb (wordAt w 1) 1 h, ← is) e
 
-  pub plane-0 : r ≡ withAspects PLANE-0 PLANE-0 (drop 3 w) → (word w 1 ≡ 0 → ⊥) → (word w 1 ≡ 1 → ⊥) → word w 2 ≡ 0 → r ≡ textureRegion w
+  pub plane-0 : r ≡ withAspects PLANE-0 PLANE-0 (drop 3 w) → (wordAt w 1 ≡ 0 → ⊥) → (wordAt w 1 ≡ 1 → ⊥) → wordAt w 2 ≡ 0 → r ≡ textureRegion w
   unfolding textureRegion
-  plane-0 e parted planar h = rw (ne-eqb (word w 1) 0 parted, ne-eqb (word w 1) 1 planar, eq-eqb (word w 2) 0 h) e
+  plane-0 e parted planar h = rw (ne-eqb (wordAt w 1) 0 parted, ne-eqb (wordAt w 1) 1 planar, eq-eqb (wordAt w 2) 0 h) e
 
-  pub plane-1 : r ≡ halved (withAspects PLANE-1 PLANE-1 (drop 3 w)) → (word w 1 ≡ 0 → ⊥) → (word w 1 ≡ 1 → ⊥) → (word w 2 ≡ 0 → ⊥) → r ≡ textureRegion w
+  pub plane-1 : r ≡ chromaHalved (withAspects PLANE-1 PLANE-1 (drop 3 w)) → (wordAt w 1 ≡ 0 → ⊥) → (wordAt w 1 ≡ 1 → ⊥) → (wordAt w 2 ≡ 0 → ⊥) → r ≡ textureRegion w
   unfolding textureRegion
-  plane-1 e parted planar h = rw (ne-eqb (word w 1) 0 parted, ne-eqb (word w 1) 1 planar, ne-eqb (word w 2) 0 h) e
+  plane-1 e parted planar h = rw (ne-eqb (wordAt w 1) 0 parted, ne-eqb (wordAt w 1) 1 planar, ne-eqb (wordAt w 2) 0 h) e
 
 -- ---- all regions left
 

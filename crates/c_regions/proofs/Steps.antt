@@ -21,9 +21,9 @@ use Rattle.plan_textures.specs.declared.TexturePlan.{TexturePlan}
 use Rattle.plan_textures.specs.Asking as X
 use Rattle.plan_kinds.specs.declared.Plan.{Plan}
 use Rattle.plan_kinds.specs.declared.Plan.the-variants.{Buffers, BufferTexture, Textures}
-use Rattle.plan_kinds.specs.Regions.{leftOf, bufferNumbers, bufferTextureNumbers, textureNumbers, numbersOf, behindOf}
+use Rattle.plan_kinds.specs.Regions.{leftOf, bufferNumbers, bufferTextureNumbers, textureNumbers, regionNumbers, behindOf}
 use Rattle.c_words.specs.Words.{partsNumber, bufferWords, bufferTextureWords, textureWords}
-use Rattle.c_regions.specs.Regions.{wordsOf, leftIn, bufferRegion, bufferBehind, bufferTextureRegion, bufferTextureBehind, withAspects, halved, depthOrStencil, textureRegion, partFollows, partOn, textureBehind}
+use Rattle.c_regions.specs.Regions.{wordsOf, leftIn, bufferRegion, bufferBehind, bufferTextureRegion, bufferTextureBehind, withAspects, chromaHalved, depthOrStencil, textureRegion, partFollows, partOn, textureBehind}
 use Rattle.c_regions.specs.Laws.{regionFrom, wordsBehind, NextAgrees, EveryStep}
 
 -- a part as large as the layer differs from it in its aspects alone
@@ -34,7 +34,7 @@ full p aspects =
 
 module _ (p : TexturePlan) (n : p .left < 2 ^ 32) (some-left : eqb (p .left) 0 ≡ false) where
   by-parts : (parts : CopyParts) (first : Bool) → p .parts ≡ parts → eqb (p .part) 0 ≡ first → NextAgrees (Textures p)
-  unfolding regionFrom numbersOf wordsBehind wordsOf behindOf X.nextOf stop-if textureNumbers textureCopyNumbers X.regionOf X.regionAs X.baseAs X.sizeBy dividedBy X.advanced X.otherPart X.otherLayer nextLayer textureWords partsNumber withAspects halved depthOrStencil textureRegion partFollows partOn textureBehind
+  unfolding regionFrom regionNumbers wordsBehind wordsOf behindOf X.nextOf stop-if textureNumbers textureCopyNumbers X.regionOf X.regionAs X.baseAs X.sizeBy dividedBy X.advanced X.otherPart X.otherLayer nextLayer textureWords partsNumber withAspects chromaHalved depthOrStencil textureRegion partFollows partOn textureBehind
   by-parts Whole first e f = rw (e, some-left, mod-eq-of-lt n) (refl, refl)
   by-parts DepthStencil true e f = rw (e, f, some-left, mod-eq-of-lt n) (full p DEPTH, refl)
   by-parts DepthStencil false e f = rw (e, f, some-left, mod-eq-of-lt n) (full p STENCIL, refl)
@@ -42,7 +42,7 @@ module _ (p : TexturePlan) (n : p .left < 2 ^ 32) (some-left : eqb (p .left) 0 �
   by-parts Planes false e f = rw (e, f, some-left, mod-eq-of-lt n) (refl, refl)
 
 agrees : (p : Plan) → leftOf p < 2 ^ 32 → eqb (leftOf p) 0 ≡ false → NextAgrees p
-unfolding leftOf regionFrom numbersOf wordsBehind wordsOf behindOf K.nextOf L.nextOf stop-if bufferNumbers bufferCopyNumbers bufferTextureNumbers bufferTextureCopyNumbers K.advanced L.advanced L.moved nextLayer bufferWords bufferTextureWords bufferRegion bufferBehind bufferTextureRegion bufferTextureBehind
+unfolding leftOf regionFrom regionNumbers wordsBehind wordsOf behindOf K.nextOf L.nextOf stop-if bufferNumbers bufferCopyNumbers bufferTextureNumbers bufferTextureCopyNumbers K.advanced L.advanced L.moved nextLayer bufferWords bufferTextureWords bufferRegion bufferBehind bufferTextureRegion bufferTextureBehind
 agrees (Buffers p) n some-left = rw (some-left, mod-eq-of-lt n) (refl, refl)
 agrees (BufferTexture p) n some-left = rw (some-left, mod-eq-of-lt n) (refl, refl)
 agrees (Textures p) n some-left = by-parts p n some-left (p .parts) (eqb (p .part) 0) refl refl

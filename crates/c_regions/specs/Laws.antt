@@ -5,7 +5,7 @@ use mathlib.Core.List.{List}
 use Rattle.c_words.specs.Words.{bufferWords, bufferTextureWords, textureWords}
 use Rattle.plan_kinds.specs.declared.Plan.{Plan}
 use Rattle.plan_kinds.specs.declared.Plan.the-variants.{Buffers, BufferTexture, Textures}
-use Rattle.plan_kinds.specs.Regions.{leftOf, numbersOf, behindOf}
+use Rattle.plan_kinds.specs.Regions.{leftOf, regionNumbers, behindOf}
 use Rattle.c_regions.specs.Regions.{wordsOf, leftIn, bufferRegion, bufferBehind, bufferTextureRegion, bufferTextureBehind, textureRegion, textureBehind}
 
 -- the next region from a plan's words
@@ -21,7 +21,7 @@ wordsBehind (BufferTexture p) = bufferTextureBehind (bufferTextureWords p)
 wordsBehind (Textures p) = textureBehind (textureWords p)
 
 abbrev pub NextAgrees : Plan → Type 0
-NextAgrees p = (regionFrom p ≡ numbersOf p) × (wordsBehind p ≡ wordsOf (behindOf p))
+NextAgrees p = (regionFrom p ≡ regionNumbers p) × (wordsBehind p ≡ wordsOf (behindOf p))
 
 -- a plan counts its regions in 32 bits
 abbrev pub EveryStep : Type 0

@@ -20,12 +20,12 @@ wordsOf (Textures p) = textureWords p
 -- ---- the next region, and the words behind it, from a plan's words w; where no region is left: zeros, and w
 
 -- word i
-abbrev pub word : List ℕ → ℕ → ℕ
-word w i = getD w i 0
+abbrev pub wordAt : List ℕ → ℕ → ℕ
+wordAt w i = getD w i 0
 
 -- how many regions are left: the low 32 bits of word 0
 abbrev pub leftIn : List ℕ → ℕ
-leftIn w = word w 0 % 2 ^ 32
+leftIn w = wordAt w 0 % 2 ^ 32
 
 -- one answer where a region is left, the other where none is
 unfoldable pub ifLeft : {A : Type 0} → List ℕ → A → A → A
@@ -40,7 +40,7 @@ oneFewer w = set w 0 (leftIn w - 1)
 
 -- the words with the layer, which is word i, one on
 abbrev pub layerOn : ℕ → List ℕ → List ℕ
-layerOn i w = set w i ((word w i + 1) % 2 ^ 32)
+layerOn i w = set w i ((wordAt w i + 1) % 2 ^ 32)
 
 -- between buffers: words 2, 3, 4
 
@@ -56,7 +56,7 @@ unfoldable pub bufferTextureRegion : List ℕ → List ℕ
 bufferTextureRegion w = drop 3 w
 
 abbrev pub offsetOn : List ℕ → List ℕ
-offsetOn w = set w 3 ((word w 3 + word w 2) % 2 ^ 64)
+offsetOn w = set w 3 ((wordAt w 3 + wordAt w 2) % 2 ^ 64)
 
 unfoldable pub bufferTextureBehind : List ℕ → List ℕ
 bufferTextureBehind w = layerOn 7 (offsetOn (oneFewer w))
@@ -69,11 +69,11 @@ unfoldable pub withAspects : ℕ → ℕ → List ℕ → List ℕ
 withAspects source destination r = set (set r 5 source) 11 destination
 
 abbrev pub halvedAt : ℕ → List ℕ → List ℕ
-halvedAt i r = set r i (word r i / 2)
+halvedAt i r = set r i (wordAt r i / 2)
 
 -- x and y of both sides, width and height divided by 2
-unfoldable pub halved : List ℕ → List ℕ
-halved r = halvedAt 2 $ halvedAt 3 $ halvedAt 8 $ halvedAt 9 $ halvedAt 12 $ halvedAt 13 r
+unfoldable pub chromaHalved : List ℕ → List ℕ
+chromaHalved r = halvedAt 2 $ halvedAt 3 $ halvedAt 8 $ halvedAt 9 $ halvedAt 12 $ halvedAt 13 r
 
 abbrev pub partRegion : ℕ → List ℕ → List ℕ
 partRegion aspects w = withAspects aspects aspects (drop 3 w)
@@ -83,9 +83,9 @@ depthOrStencil part = pick (eqb part 0) DEPTH STENCIL
 
 unfoldable pub textureRegion : List ℕ → List ℕ
 textureRegion w =
-    pick (eqb (word w 1) 0) (drop 3 w) $
-    pick (eqb (word w 1) 1) (partRegion (depthOrStencil (word w 2)) w) $
-    pick (eqb (word w 2) 0) (partRegion PLANE-0 w) (halved (partRegion PLANE-1 w))
+    pick (eqb (wordAt w 1) 0) (drop 3 w) $
+    pick (eqb (wordAt w 1) 1) (partRegion (depthOrStencil (wordAt w 2)) w) $
+    pick (eqb (wordAt w 2) 0) (partRegion PLANE-0 w) (chromaHalved (partRegion PLANE-1 w))
 
 -- whether the layer has another part behind this one
 unfoldable pub partFollows : ℕ → ℕ → Bool
@@ -93,7 +93,7 @@ partFollows parts part = not (eqb parts 0) && eqb part 0
 
 -- the layer's other part, or the first part one layer on
 unfoldable pub partOn : List ℕ → List ℕ
-partOn w = pick (partFollows (word w 1) (word w 2)) (set w 2 1) (layerOn 10 (layerOn 4 (set w 2 0)))
+partOn w = pick (partFollows (wordAt w 1) (wordAt w 2)) (set w 2 1) (layerOn 10 (layerOn 4 (set w 2 0)))
 
 unfoldable pub textureBehind : List ℕ → List ℕ
 textureBehind w = partOn (oneFewer w)

@@ -6,7 +6,7 @@ ghost use Rattle.flags.specs.FormatAspects.{PLANE-1};
 ghost use Rattle.plan_writer.specs.Writing.{slotsOf};
 ghost use Rattle.c_plans.specs.PlanWords.{buffersFrom, bufferTextureFrom, texturesFrom};
 ghost use Rattle.c_regions.specs.Laws.{EveryStep};
-ghost use Rattle.c_regions.specs.Regions.{ifLeft, nextNumber, bufferRegion, bufferBehind, bufferTextureRegion, bufferTextureBehind, withAspects, halved, depthOrStencil, textureRegion, partFollows, partOn, textureBehind, writtenNumber, writtenWords};
+ghost use Rattle.c_regions.specs.Regions.{ifLeft, nextNumber, bufferRegion, bufferBehind, bufferTextureRegion, bufferTextureBehind, withAspects, chromaHalved, depthOrStencil, textureRegion, partFollows, partOn, textureBehind, writtenNumber, writtenWords};
 use flags::FormatAspects;
 use plan_kinds::Plan;
 
@@ -88,7 +88,7 @@ fn full_region(plan: &[u64; 18], region: &mut [u64; 15], source: u64, destinatio
 
 // The region of plane 1, whose x, y, width and height are half the layer's.
 fn chroma_region(plan: &[u64; 18], region: &mut [u64; 15])
-    ensures { λ _. ⌜ now (region .exit) ≡ halved (withAspects PLANE-1 PLANE-1 (drop 3 (now (plan .entry)))) ⌝ }
+    ensures { λ _. ⌜ now (region .exit) ≡ chromaHalved (withAspects PLANE-1 PLANE-1 (drop 3 (now (plan .entry)))) ⌝ }
 {
     counted(plan, region);
     region[0] = plan[3];

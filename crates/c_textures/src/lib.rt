@@ -9,9 +9,6 @@ use formats::TextureAspect;
 use records::TextureSide;
 use refusals::TransferError;
 
-// The numbers past this one name no aspect.
-const LAST_ASPECT: u32 = 5;
-
 fn side_from(texture: &[u32; 8], view: &[u32; 5]) -> TextureSide
     ensures { λ r. ⌜ r ≡ sideFrom (now (texture .entry)) (now (view .entry)) ⌝ }
 {
@@ -70,10 +67,10 @@ fn plan_copy(
 ) -> TexturePlanned
     ensures { λ r. ⌜ r ≡ answer «same_texture» (now (src .entry)) (now («src_view» .entry)) (now (dst .entry)) (now («dst_view» .entry)) (now (size .entry)) ⌝ }
 {
-    if src_view[4] > LAST_ASPECT {
+    if src_view[4] > formats::LAST_ASPECT {
         return no_aspect(src[0]);
     }
-    if dst_view[4] > LAST_ASPECT {
+    if dst_view[4] > formats::LAST_ASPECT {
         return no_aspect(dst[0]);
     }
     plan_known(same_texture, src, src_view, dst, dst_view, size)

@@ -64,18 +64,18 @@ abbrev pub layersWords : TextureInitRange → List ℕ
 layersWords r = kindWord (r .kind) ∷ r .layers .start ∷ r .layers .end ∷ []
 
 -- the destination's, then the source's
-unfoldable pub bufferRanges : BufferPlan → List ℕ
-bufferRanges p = rangeWords (p .«dst_range») ++ rangeWords (p .«src_range»)
+unfoldable pub buffersRangeWords : BufferPlan → List ℕ
+buffersRangeWords p = rangeWords (p .«dst_range») ++ rangeWords (p .«src_range»)
 
 -- the texture's, then the buffer's
-unfoldable pub copyRanges : CopyRanges → List ℕ
-copyRanges (C.Given t b) = layersWords t ++ (rangeWords (b .head) ++ (rangeWords (b .whole) ++ rangeWords (b .tail)))
-copyRanges C.Absent = replicate 12 0
+unfoldable pub copyRangeWords : CopyRanges → List ℕ
+copyRangeWords (C.Given t b) = layersWords t ++ (rangeWords (b .head) ++ (rangeWords (b .whole) ++ rangeWords (b .tail)))
+copyRangeWords C.Absent = replicate 12 0
 
 -- the source's, then the destination's
-unfoldable pub textureRanges : TextureRanges → List ℕ
-textureRanges (X.Given s d) = layersWords s ++ layersWords d
-textureRanges X.Absent = replicate 6 0
+unfoldable pub textureRangeWords : TextureRanges → List ℕ
+textureRangeWords (X.Given s d) = layersWords s ++ layersWords d
+textureRangeWords X.Absent = replicate 6 0
 
 -- ---- a refusal: no region left, then side, dimension, start, end, limit
 
@@ -94,7 +94,7 @@ buffersPlan (B.Plan p) = bufferWords p
 buffersPlan (B.Refused e) = refusedWords e []
 
 unfoldable pub buffersRanges : BufferPlanned → List ℕ
-buffersRanges (B.Plan p) = bufferRanges p
+buffersRanges (B.Plan p) = buffersRangeWords p
 buffersRanges (B.Refused e) = replicate 6 0
 
 unfoldable pub copyNumber : BufferTexturePlanned → ℕ
@@ -106,7 +106,7 @@ copyPlan (U.Plan p) = bufferTextureWords p
 copyPlan (U.Refused e) = refusedWords e (replicate 9 0)
 
 unfoldable pub copyRangesOf : BufferTexturePlanned → List ℕ
-copyRangesOf (U.Plan p) = copyRanges (p .ranges)
+copyRangesOf (U.Plan p) = copyRangeWords (p .ranges)
 copyRangesOf (U.Refused e) = replicate 12 0
 
 unfoldable pub texturesNumber : TexturePlanned → ℕ
@@ -118,5 +118,5 @@ texturesPlan (T.Plan p) = textureWords p
 texturesPlan (T.Refused e) = refusedWords e (replicate 12 0)
 
 unfoldable pub texturesRanges : TexturePlanned → List ℕ
-texturesRanges (T.Plan p) = textureRanges (p .ranges)
+texturesRanges (T.Plan p) = textureRangeWords (p .ranges)
 texturesRanges (T.Refused e) = replicate 6 0

@@ -3,7 +3,7 @@ ghost use mathlib.Core.Path.{_≡_};
 ghost use mathlib.Core.List.{[], _∷_, _++_};
 ghost use lib.ListN.{replicate};
 ghost use Rattle.plan_rows.specs.Rows.{baseNumbers, sizeNumbers};
-ghost use Rattle.c_words.specs.Words.{partsNumber, bufferWords, bufferTextureWords, textureWords, bufferRangeWords, rangeWords, layersWords, bufferRanges, copyRanges, textureRanges, refusedWords, buffersNumber, buffersPlan, buffersRanges, copyNumber, copyPlan, copyRangesOf, texturesNumber, texturesPlan, texturesRanges};
+ghost use Rattle.c_words.specs.Words.{partsNumber, bufferWords, bufferTextureWords, textureWords, bufferRangeWords, rangeWords, layersWords, buffersRangeWords, copyRangeWords, textureRangeWords, refusedWords, buffersNumber, buffersPlan, buffersRanges, copyNumber, copyPlan, copyRangesOf, texturesNumber, texturesPlan, texturesRanges};
 use copy_buffer_texture::BufferTexturePlanned;
 use copy_buffers::BufferPlanned;
 use copy_textures::TexturePlanned;
@@ -185,7 +185,7 @@ fn four_ranges(a: RangeWords, b: RangeWords, c: RangeWords, d: RangeWords) -> [u
 }
 
 fn buffer_ranges(p: BufferPlan) -> [u64; 6]
-    ensures { λ r. ⌜ r ≡ bufferRanges p ⌝ }
+    ensures { λ r. ⌜ r ≡ buffersRangeWords p ⌝ }
 {
     let written = p.dst_range;
     let read = p.src_range;
@@ -207,7 +207,7 @@ fn given_ranges(t: TextureInitRange, b: BufferInitRanges) -> [u64; 12]
 }
 
 fn copy_ranges(ranges: CopyRanges) -> [u64; 12]
-    ensures { λ r. ⌜ r ≡ copyRanges ranges ⌝ }
+    ensures { λ r. ⌜ r ≡ copyRangeWords ranges ⌝ }
 {
     match ranges {
         CopyRanges::Given(t, b) => given_ranges(t, b),
@@ -216,7 +216,7 @@ fn copy_ranges(ranges: CopyRanges) -> [u64; 12]
 }
 
 fn texture_ranges(ranges: TextureRanges) -> [u64; 6]
-    ensures { λ r. ⌜ r ≡ textureRanges ranges ⌝ }
+    ensures { λ r. ⌜ r ≡ textureRangeWords ranges ⌝ }
 {
     match ranges {
         TextureRanges::Given(s, d) => two_ranges(layers_words(s), layers_words(d)),

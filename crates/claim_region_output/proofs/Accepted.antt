@@ -8,7 +8,7 @@ use Prim.Native.Nat.{ℕ, _+_, _^_, _≤_, _<_}
 use native.Mathlib.Omega.{arith}
 use lib.Dec.{ltb}
 use borrow.Author.Tests.{ltb-true}
-use Rattle.conditions.specs.Conditions.{pick, stop-if, every}
+use Rattle.conditions.specs.Conditions.{pick, every}
 use Rattle.conditions.proofs.Rules.{AllTrue, all-true}
 use Rattle.conditions.proofs.Tables.{at-each}
 use Rattle.measures.specs.declared.Extent3d.{Extent3d}
@@ -21,19 +21,12 @@ use Rattle.formats.specs.declared.TextureAspect.{TextureAspect}
 use Rattle.formats.specs.declared.TextureAspect.the-variants.{All, StencilOnly, DepthOnly, Plane0, Plane1, Plane2}
 use Rattle.formats.specs.Table.{formats, unknown, formatRow, aspectsOf}
 use Rattle.formats.specs.Aspects.{askedOf, chosenAspects}
-use Rattle.refusals.specs.declared.TransferError.{TransferError}
 use Rattle.records.specs.declared.Texture.{Texture}
 use Rattle.records.specs.declared.TexelCopyTextureInfo.{TexelCopyTextureInfo}
 use Rattle.rule_copy_range.specs.Range.{copyExtent, depthOf}
 use Rattle.rule_selectors.specs.Selector.{layerOf, zOf, baseOf}
 use Rattle.claim_region_output.specs.Numbers.{baseNumbers, sides}
 use Rattle.claim_region_output.proofs.Kept.{Small}
-
--- what holds of every answer that is no refusal, past a line of an order of checks
-pub past : {A : Type 0} (Q : A → Type 0) (refused : TransferError → A) → ((e : TransferError) → Q (refused e)) → (t : Bool) (e : TransferError) (rest : A) → (t ≡ false → Q rest) → Q (stop-if t (refused e) rest)
-unfolding stop-if
-past Q refused none true e rest h = none e
-past Q refused none false e rest h = h refl
 
 pub either-way : {A : Type 0} (Q : A → Type 0) (t : Bool) (a b : A) → Q a → Q b → Q (pick t a b)
 either-way Q true a b h k = h

@@ -18,7 +18,7 @@ use Rattle.plan_buffer_texture.specs.Asking as L
 use Rattle.plan_textures.specs.Asking as X
 use Rattle.plan_kinds.specs.declared.Plan.{Plan}
 use Rattle.plan_kinds.specs.declared.Plan.the-variants.{Buffers, BufferTexture, Textures}
-use Rattle.plan_kinds.specs.Regions.{leftOf, fieldsOf, bufferNumbers, bufferTextureNumbers, textureNumbers, numbersOf, behindOf}
+use Rattle.plan_kinds.specs.Regions.{leftOf, fieldsOf, bufferNumbers, bufferTextureNumbers, textureNumbers, regionNumbers, behindOf}
 use Rattle.plan_kinds.proofs.Behind.{behind-left}
 use Rattle.plan_writer.specs.Writing.{numbersFrom, behindAll}
 use Rattle.plan_writer.proofs.Writes.{numbers-count, behind-fields}
@@ -59,8 +59,8 @@ unfolding orAbsent slot optional
 slot-optional (Given n) = refl
 slot-optional Absent = refl
 
-at-more : (p : Plan) → 0 < leftOf p → (answer p ≡ region (next p)) × (numbersOf p ≡ row (next p))
-unfolding leftOf answer numbersOf buffersAnswer bufferTextureAnswer texturesAnswer K.nextOf L.nextOf X.nextOf stop-if bufferNumbers bufferTextureNumbers textureNumbers bufferCopyNumbers bufferTextureCopyNumbers textureCopyNumbers row numbers slot
+at-more : (p : Plan) → 0 < leftOf p → (answer p ≡ region (next p)) × (regionNumbers p ≡ row (next p))
+unfolding leftOf answer regionNumbers buffersAnswer bufferTextureAnswer texturesAnswer K.nextOf L.nextOf X.nextOf stop-if bufferNumbers bufferTextureNumbers textureNumbers bufferCopyNumbers bufferTextureCopyNumbers textureCopyNumbers row numbers slot
 at-more (Buffers p) h = rw (ne-eqb (p .left) 0 (some h)) (refl, refl)
 at-more (BufferTexture p) h =
     rw (ne-eqb (p .left) 0 (some h), slot-optional (p .region .«bytes_per_row»), slot-optional (p .region .«rows_per_image»)) (refl, refl)
@@ -85,7 +85,7 @@ module _ (p : Plan) (r : Region) (e : answer p ≡ region r) where
   pub its-region : next p ≡ r
   its-region = let f : region (next p) ≡ region r = sym (at-more p some-left .0) ∙ e in cc
 
-  pub its-numbers : numbersOf p ≡ row r
+  pub its-numbers : regionNumbers p ≡ row r
   its-numbers = at-more p some-left .1 ∙ ap row its-region
 
   pub one-fewer : leftOf p ≡ suc (leftOf (handedBack p))

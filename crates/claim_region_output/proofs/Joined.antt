@@ -2,12 +2,15 @@
 -- Assumes nothing.
 use mathlib.Core.Path.{refl, ap}
 use mathlib.Core.List.{List, map}
+use Prim.Native.Nat.{_^_, _<_}
 use Rattle.plan_buffers.specs.declared.BufferCopy.{BufferCopy}
 use Rattle.plan_buffers.specs.declared.BufferPlan.{BufferPlan}
 use Rattle.plan_buffer_texture.specs.declared.BufferTextureCopy.{BufferTextureCopy}
 use Rattle.plan_buffer_texture.specs.declared.BufferTexturePlan.{BufferTexturePlan}
 use Rattle.plan_textures.specs.declared.TextureCopy.{TextureCopy}
 use Rattle.plan_textures.specs.declared.TexturePlan.{TexturePlan}
+use Rattle.plan_kinds.specs.declared.Plan.{Plan}
+use Rattle.plan_kinds.specs.Regions.{leftOf}
 use Rattle.plan_kinds.specs.declared.Plan.the-variants.{Buffers, BufferTexture, Textures}
 use Rattle.claim_buffer_regions.specs.Claim as O
 use Rattle.claim_buffer_regions.proofs.Claims.{every-buffer-copy}
@@ -16,8 +19,11 @@ use Rattle.claim_ownership.proofs.Claims.{every-copy}
 use Rattle.claim_ownership.proofs.Empty.{every-empty-copy}
 use Rattle.claim_texture_regions.specs.Claim as T
 use Rattle.claim_texture_regions.proofs.Claims.{every-texture-copy}
-use Rattle.claim_region_output.specs.Asking.{buffers, bufferTexture, textures, buffersAnswer, bufferTextureAnswer, texturesAnswer, answer, handedBack, Gives, ended, gave}
-use Rattle.claim_region_output.specs.Copies.{BufferCopies, BufferTextureCopies, EmptyCopies, TextureCopies}
+use Rattle.claim_region_output.specs.Asking.{Region, buffers, bufferTexture, textures, buffersAnswer, bufferTextureAnswer, texturesAnswer, answer, handedBack, Gives, ended, gave}
+use Rattle.claim_region_output.specs.Copies.{Reaches, BufferCopies, BufferTextureCopies, EmptyCopies, TextureCopies}
+use Rattle.claim_region_output.proofs.Asks.{counted}
+use Rattle.claim_region_output.proofs.ByWords.{every-plan-steps}
+use Rattle.claim_region_output.proofs.Few.{buffers-few, copy-few, textures-few}
 
 buffers-asked : {p : BufferPlan} {rs : List BufferCopy} → O.Gives p rs → Gives (Buffers p) (map buffers rs)
 unfolding answer handedBack buffersAnswer
@@ -34,14 +40,22 @@ unfolding answer handedBack texturesAnswer
 textures-asked (T.ended a same) = ended (ap texturesAnswer a) (ap Textures same)
 textures-asked (T.gave a rest) = gave (ap texturesAnswer a) (textures-asked rest)
 
+-- the plan's regions, few as they are, are those of its words
+reached : {p : Plan} {rs : List Region} → Gives p rs → leftOf p < 2 ^ 32 → Reaches p rs
+reached {p} {rs} g few = (g, every-plan-steps p rs g (rw (← counted g) few))
+
 pub buffer-copies : BufferCopies
-buffer-copies device i j c p e = buffers-asked (every-buffer-copy device i j c p e .asked _ .1 refl)
+unfolding leftOf
+buffer-copies device i j c p e = reached (buffers-asked (every-buffer-copy device i j c p e .asked _ .1 refl)) (buffers-few device i j _ _ _ _ _ p e)
 
 pub buffer-texture-copies : BufferTextureCopies
-buffer-texture-copies c p e w h d = buffer-texture-asked (every-copy c p e w h d .asked _ .1 refl)
+unfolding leftOf
+buffer-texture-copies c p e w h d = reached (buffer-texture-asked (every-copy c p e w h d .asked _ .1 refl)) (copy-few c p e)
 
 pub empty-copies : EmptyCopies
-empty-copies c p e none = buffer-texture-asked (every-empty-copy c p e none .asked _ .1 refl)
+unfolding leftOf
+empty-copies c p e none = reached (buffer-texture-asked (every-empty-copy c p e none .asked _ .1 refl)) (copy-few c p e)
 
 pub texture-copies : TextureCopies
-texture-copies i j c p e = textures-asked (every-texture-copy i j c p e _ .1 refl)
+unfolding leftOf
+texture-copies i j c p e = reached (textures-asked (every-texture-copy i j c p e _ .1 refl)) (textures-few i _ j _ _ p e)

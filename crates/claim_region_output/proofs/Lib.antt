@@ -6,4 +6,5 @@ pub mod Accepted
 pub mod Copies
 pub mod Sheets
 pub mod ByWords
+pub mod Few
 pub mod Joined

@@ -17,13 +17,13 @@ use Rattle.sheet_text.specs.Text.{digitsIn, decimal, isAbsent, numberText, line
 use Rattle.sheet_text.specs.Text as D
 use Rattle.plan_kinds.specs.declared.Plan.{Plan}
 use Rattle.plan_kinds.specs.declared.Plan.the-variants.{Buffers, BufferTexture, Textures}
-use Rattle.plan_kinds.specs.Regions.{bytesOf, numbersOf}
+use Rattle.plan_kinds.specs.Regions.{bytesChecked as planBytes, regionNumbers}
 use Rattle.copy_kinds.specs.declared.RangeSlot.{RangeSlot}
 use Rattle.copy_kinds.specs.declared.RangeSlot.the-variants.{Texture, Buffer, Absent}
 use Rattle.copy_kinds.specs.declared.Ranges.{Ranges}
 use Rattle.copy_kinds.specs.Ranges.{slotCount, countOf}
 use Rattle.sheet_lines.specs.Lines.{rangeText, rangesText, copyText, planText, answerText, regionText}
-use Rattle.sheet_listing.specs.Listing.{regionsText, planOf, copyAnswer}
+use Rattle.sheet_listing.specs.Listing.{regionsText, planAnswered, copyAnswer}
 use Rattle.claim_region_output.specs.Asking.{Region, Gives, ended, gave}
 use Rattle.claim_region_output.specs.Numbers.{Number, given, absent, numbers, slot, row, Below}
 use Rattle.claim_region_output.specs.Text.{text, digits, shown, spaced, line, regionLines, kind, rangeLine, rangeLines, bytesChecked, accepted}
@@ -72,7 +72,7 @@ plain (n ∷ ns) = rw (given-shown false n refl, plain ns)
 
 -- ---- regions
 
-region-line : (p : Plan) (r : Region) → numbersOf p ≡ row r → Below (2 ^ 64 - 1) (numbers r) → regionText p ≡ line "r" (numbers r)
+region-line : (p : Plan) (r : Region) → regionNumbers p ≡ row r → Below (2 ^ 64 - 1) (numbers r) → regionText p ≡ line "r" (numbers r)
 unfolding regionText lineText line text row
 region-line p r e h = rw (e, told (numbers r) h)
 
@@ -117,8 +117,8 @@ module _ (r : Ranges) where
 
 -- ---- a copy
 
-bytes-same : (p : Plan) → bytesOf p ≡ bytesChecked p
-unfolding bytesOf bytesChecked
+bytes-same : (p : Plan) → planBytes p ≡ bytesChecked p
+unfolding planBytes bytesChecked
 bytes-same (Buffers p) = refl
 bytes-same (BufferTexture p) = refl
 bytes-same (Textures p) = refl
@@ -127,7 +127,7 @@ in-turn : (a b c d e : List ℕ) → ((a ++ b) ++ (c ++ d)) ++ e ≡ a ++ (b ++ 
 in-turn a b c d e = simp append-assoc
 
 pub every-plan-prints : EveryPlanPrints
-unfolding copyAnswer answerText planText copyText planOf accepted line lineText text
+unfolding copyAnswer answerText planText copyText planAnswered accepted line lineText text
 every-plan-prints p rs g h k r =
     rw (counted g, bytes-same p, range-count r, range-lines r, region-lines g h, plain (k ∷ []), plain (length rs ∷ length (rangeLines r) ∷ bytesChecked p ∷ []))
     (in-turn (text "copy") (spaced (given k ∷ [])) (line " ok" (given (length rs) ∷ given (length (rangeLines r)) ∷ given (bytesChecked p) ∷ [])) (joined (rangeLines r)) (regionLines rs))

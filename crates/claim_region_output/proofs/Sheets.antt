@@ -9,7 +9,7 @@ use native.Mathlib.Omega.{arith}
 use native.Mathlib.Nat.{mod-lt}
 use lib.Dec.{eqb}
 use lib.ListN.{getD}
-use Rattle.conditions.specs.Conditions.{stop-if}
+use Rattle.refusals.specs.Order.{Checks, first, decided}
 use Rattle.measures.specs.declared.OptionU32.{OptionU32}
 use Rattle.measures.specs.declared.OptionU32.the-variants.{Given, Absent}
 use Rattle.refusals.specs.declared.TransferError.{TransferError}
@@ -32,14 +32,13 @@ use Rattle.sheet_sections.specs.Rows.{copies, sectionLine}
 use Rattle.sheet_records.specs.Records.{valueOf, wordOf, wordOrAbsent, extentOf, originOf, viewOf, layoutOf}
 use Rattle.sheet_copies.specs.CopyLines.{textureSideAt, namedBuffers, buffersPlanned, namedCopy, copyPlanned, namedTextures, texturesPlanned, linePlanned}
 use Rattle.sheet_lines.specs.Lines.{sheetText, copyText, refusalText, answerText}
-use Rattle.sheet_listing.specs.Listing.{noPlan, planOf, regionsText, copyAnswer, answerAt, copiesText, texturePlaces, bufferPlaces, deviceAt, listingFrom, listingOf}
+use Rattle.sheet_listing.specs.Listing.{noPlan, planAnswered, regionsText, copyAnswer, answerAt, copiesText, texturePlaces, bufferPlaces, deviceAt, listingFrom, listingOf}
 use Rattle.claim_region_output.specs.Numbers.{optional}
 use Rattle.claim_region_output.specs.Text.{text, line, refused}
 use Rattle.claim_region_output.specs.Printed.{Prints, none, plan, refusal, answers, EverySheetLists}
 use Rattle.claim_region_output.proofs.Asks.{every-plan-ends}
 use Rattle.claim_region_output.proofs.Prints.{plain, every-plan-prints}
 use Rattle.claim_region_output.proofs.Kept.{Small, Fit, all-told}
-use Rattle.claim_region_output.proofs.Accepted as A
 use Rattle.claim_region_output.proofs.Accepted.{Figures, either-way}
 use Rattle.claim_region_output.proofs.Copies.{BuffersFit, buffers-fit, BufferTextureFit, upload-fits, download-fits, TexturesFit, textures-fit}
 
@@ -92,24 +91,28 @@ module _ (l : Line) where
   option-small i = either-way (λ (o : OptionU32). Small (optional o ∷ [])) (eqb (valueOf l i) (2 ^ 64 - 1)) Absent (Given (wordOf l i)) tt (omega (arith, word-few i), tt)
 
 module _ (s ts bs : List ℕ) (device : Device) (l : Line) where
-  line-stop : (t : Bool) (e : TransferError) (rest : Planned) → (t ≡ false → PlannedFit rest) → PlannedFit (stop-if t (P.Refused e) rest)
-  line-stop = A.past PlannedFit P.Refused no-plan
+  -- whatever checks come before it
+  decided-fits : (checks : Checks) (rest : Planned) → PlannedFit rest → PlannedFit (decided checks P.Refused rest)
+  unfolding decided first
+  decided-fits [] rest h = h
+  decided-fits ([] ∷ checks) rest h = decided-fits checks rest h
+  decided-fits ((e ∷ es) ∷ checks) rest h = no-plan e
 
   buffers-line : PlannedFit (buffersPlanned s bs device l)
   unfolding buffersPlanned namedBuffers
-  buffers-line = line-stop _ _ _ λ i. line-stop _ _ _ λ j. of-buffers _ _ _ (buffers-fit device _ _ _ _ _ _ _)
+  buffers-line = decided-fits _ _ (of-buffers _ _ _ (buffers-fit device _ _ _ _ _ _ _))
 
   copy-line : PlannedFit (copyPlanned s ts bs device l)
   unfolding copyPlanned namedCopy layoutOf
   copy-line =
-      line-stop _ _ _ λ i. line-stop _ _ _ λ j.
-      either-way PlannedFit (eqb (valueOf l 0) 2) _ _
+      decided-fits _ _
+      (either-way PlannedFit (eqb (valueOf l 0) 2) _ _
       (of-copy _ _ _ (upload-fits device _ _ _ _ _ (figures l 6 11) (option-small l 3) (option-small l 4)))
-      (of-copy _ _ _ (download-fits device _ _ _ _ _ (figures l 6 11) (option-small l 3) (option-small l 4)))
+      (of-copy _ _ _ (download-fits device _ _ _ _ _ (figures l 6 11) (option-small l 3) (option-small l 4))))
 
   textures-line : PlannedFit (texturesPlanned s ts l)
   unfolding texturesPlanned namedTextures textureSideAt
-  textures-line = line-stop _ _ _ λ i. line-stop _ _ _ λ j. of-textures _ _ _ (textures-fit _ _ _ _ _ (figures l 2 13) (figures l 8 13))
+  textures-line = decided-fits _ _ (of-textures _ _ _ (textures-fit _ _ _ _ _ (figures l 2 13) (figures l 8 13)))
 
   line-fits : PlannedFit (linePlanned s ts bs device l)
   unfolding linePlanned
@@ -118,7 +121,7 @@ module _ (s ts bs : List ℕ) (device : Device) (l : Line) where
 -- ---- a copy's text
 
 refused-text : (k : ℕ) (e : TransferError) → copyAnswer k (P.Refused e) ≡ refused k e
-unfolding copyAnswer answerText refusalText copyText planOf noPlan leftOf regionsText refused line lineText text refusalNumbers
+unfolding copyAnswer answerText refusalText copyText planAnswered noPlan leftOf regionsText refused line lineText text refusalNumbers
 refused-text k e = rw (append-nil, plain (k ∷ []), plain (refusalNumbers e))
 
 one-copy : (k : ℕ) (a : Planned) (more : List Planned) (rest : List ℕ) → PlannedFit a → Prints (suc k) more rest → Prints k (a ∷ more) (copyAnswer k a ++ rest)

@@ -18,7 +18,7 @@ use Rattle.rule_selectors.specs.Selector.{selectorChecks}
 use Rattle.copy_textures.specs.declared.TexturePlanned.the-variants.{Plan}
 use Rattle.copy_textures.specs.Copy as T
 use Rattle.copy_textures.specs.Copy.{isOneTexture, isThis, isPlaneSplit, formatsDiffer}
-use Rattle.copy_textures.specs.Plan.{copyChecks, textureToTexture}
+use Rattle.copy_textures.specs.Plan.{textureCopyChecks, textureToTexture}
 use Rattle.claim_webgpu_rules.specs.Formats as W
 use Rattle.claim_texture_regions.specs.Regions.{Copy, regionsOf}
 use Rattle.claim_texture_regions.proofs.Accepted.{planFor}
@@ -29,7 +29,7 @@ abbrev Planned : Copy → Type 0
 Planned c = textureToTexture 0 (c .src) 1 (c .dst) (c .size) ≡ Plan (planFor c)
 
 planned : Planned (example 2 3) × Planned (example 3 2)
-unfolding stop-if multiple blocksOf roundedUp roundUp physicalSize contains halved sideAt texelsAt mipLevelSize halvings maxMipLevels textureDimension formats formatRow isFormat blockDimensions aspectsOf isDepthStencil removeSrgb isMultiPlanar askedOf chosenAspects aspectSpecificFormat refuse-if first decided flatten within sizeInBounds mipSide levelsInBounds mayBeMultisampled samplesInBounds dimensionSuits sidesWhole planesSuit fieldsInBounds formatSuits textureInBounds textureChecks logicalExtent physicalExtent isPartial overruns dimensionChecks sideChecks blockChecks requiresExactSize rangeChecks selectorChecks isOneTexture isThis isPlaneSplit formatsDiffer copyChecks T.planFor textureToTexture
+unfolding stop-if multiple blocksOf roundedUp roundUp physicalSize contains halved sideAt texelsAt mipLevelSize halvings maxMipLevels textureDimension formats formatRow isFormat blockDimensions aspectsOf isDepthStencil removeSrgb isMultiPlanar askedOf chosenAspects aspectSpecificFormat refuse-if first decided flatten within sizeInBounds mipSide levelsInBounds mayBeMultisampled samplesInBounds dimensionSuits sidesWhole planesSuit fieldsInBounds formatSuits textureInBounds textureChecks logicalExtent physicalExtent isPartial overruns dimensionChecks sideChecks blockChecks requiresExactSize rangeChecks selectorChecks isOneTexture isThis isPlaneSplit formatsDiffer textureCopyChecks T.planFor textureToTexture
 planned = (refl, refl)
 
 r8unorm : W.Known 0

@@ -18,7 +18,7 @@ use Rattle.plan_buffers.specs.Plan.{planOf}
 use Rattle.copy_buffers.specs.declared.BufferPlanned.{BufferPlanned}
 use Rattle.copy_buffers.specs.declared.BufferPlanned.the-variants as P
 use Rattle.copy_buffers.specs.Copy.{Copy}
-use Rattle.copy_buffers.specs.Plan.{bytes, copyChecks, planned}
+use Rattle.copy_buffers.specs.Plan.{bytes, bufferCopyChecks, planned}
 use Rattle.copy_buffers.specs.Laws.{Accepted, EveryCopyLaw}
 
 no-plan : (p : BufferPlan) (e : TransferError) → P.Refused e ≡ P.Plan p → ⊥
@@ -48,10 +48,10 @@ module _ (c : Copy) where
   ends : (offset size : ℕ) → offset + bytes c ≤ size → ltb (size - offset) (bytes c) ≡ false
   ends offset size h = le-ltb (size - offset) (bytes c) (omega arith)
 
-  accepted : (p : BufferPlan) → decided (copyChecks c) P.Refused (P.Plan plan) ≡ P.Plan p → Accepted c × (plan ≡ p)
-  unfolding copyChecks
+  accepted : (p : BufferPlan) → decided (bufferCopyChecks c) P.Refused (P.Plan plan) ≡ P.Plan p → Accepted c × (plan ≡ p)
+  unfolding bufferCopyChecks
   accepted p h =
-      let f = none-found BufferPlanned P.Refused (P.Plan plan) (copyChecks c) (P.Plan p) h (no-plan p) in
+      let f = none-found BufferPlanned P.Refused (P.Plan plan) (bufferCopyChecks c) (P.Plan p) h (no-plan p) in
       let n = f .0 in (
         record {
           src-bounds = buffer-of (c .src) Source (n 0);
@@ -69,10 +69,10 @@ module _ (c : Copy) where
         same-plan (f .1),
       )
 
-  plans : Accepted c → decided (copyChecks c) P.Refused (P.Plan plan) ≡ P.Plan plan
-  unfolding copyChecks
+  plans : Accepted c → decided (bufferCopyChecks c) P.Refused (P.Plan plan) ≡ P.Plan plan
+  unfolding bufferCopyChecks
   plans a =
-      all-pass BufferPlanned P.Refused (P.Plan plan) (copyChecks c) (
+      all-pass BufferPlanned P.Refused (P.Plan plan) (bufferCopyChecks c) (
         buffer-passes (c .src) Source (a .src-bounds),
         (
           buffer-passes (c .dst) Destination (a .dst-bounds),

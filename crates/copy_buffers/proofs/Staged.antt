@@ -13,20 +13,20 @@ use Rattle.records.specs.declared.Device.{Device}
 use Rattle.rule_answers.proofs.Rules.{past-rule}
 use Rattle.copy_buffers.specs.declared.BufferPlanned.{BufferPlanned}
 use Rattle.copy_buffers.specs.declared.BufferPlanned.the-variants as P
-use Rattle.copy_buffers.specs.Plan.{copyChecks, planned, bufferToBuffer}
-use Rattle.copy_buffers.specs.Stages.{fittingCopy, sizedCopy, copyStaged}
+use Rattle.copy_buffers.specs.Plan.{bufferCopyChecks, planned, bufferToBuffer}
+use Rattle.copy_buffers.specs.Stages.{fittingCopy, sizedCopy, bufferCopyStaged}
 
 line-p : (t : Bool) (e : TransferError) (rest : BufferPlanned) → stop-if t (P.Refused e) rest ≡ first (refuse-if t e) P.Refused rest
 line-p t e rest = line BufferPlanned P.Refused t e rest
 
 copy-law :
     (device : Device) (i : ℕ) (src : Buffer) (srcOffset j : ℕ) (dst : Buffer) (dstOffset : ℕ) (size : OptionU64)
-    → copyStaged device i src srcOffset j dst dstOffset size ≡ bufferToBuffer device i src srcOffset j dst dstOffset size
-unfolding copyStaged sizedCopy fittingCopy bufferToBuffer planned copyChecks decided
+    → bufferCopyStaged device i src srcOffset j dst dstOffset size ≡ bufferToBuffer device i src srcOffset j dst dstOffset size
+unfolding bufferCopyStaged sizedCopy fittingCopy bufferToBuffer planned bufferCopyChecks decided
 copy-law device i src srcOffset j dst dstOffset size = simp (line-p, past-rule)
 
 -- for an answer that a function gave
 pub by-copy-law :
     (device : Device) (i : ℕ) (src : Buffer) (srcOffset j : ℕ) (dst : Buffer) (dstOffset : ℕ) (size : OptionU64) (x : BufferPlanned)
-    → x ≡ copyStaged device i src srcOffset j dst dstOffset size → x ≡ bufferToBuffer device i src srcOffset j dst dstOffset size
+    → x ≡ bufferCopyStaged device i src srcOffset j dst dstOffset size → x ≡ bufferToBuffer device i src srcOffset j dst dstOffset size
 by-copy-law device i src srcOffset j dst dstOffset size x h = h ∙ copy-law device i src srcOffset j dst dstOffset size

@@ -37,8 +37,8 @@ unfoldable pub lacksIndexFact : Device → ℕ → ℕ → Bool
 lacksIndexFact device src dst =
     not (device .«unrestricted_index_buffer») && ((contains src BufferUsages.INDEX || contains dst BufferUsages.INDEX) && (isShared src || isShared dst))
 
-unfoldable pub copyChecks : Copy → Checks
-copyChecks c =
+unfoldable pub bufferCopyChecks : Copy → Checks
+bufferCopyChecks c =
     flatten (bufferChecks (c .src) Source)  -- 3
     ∷ flatten (bufferChecks (c .dst) Destination)  -- 3
     ∷ refuse-if (eqb (c .src-index) (c .dst-index)) E.SameSourceDestinationBuffer  -- 4
@@ -55,7 +55,7 @@ copyChecks c =
     ∷ []
 
 unfoldable pub planned : Copy → BufferPlanned
-planned c = decided (copyChecks c) P.Refused (P.Plan (planOf (c .src-offset) (c .dst-offset) (bytes c)))
+planned c = decided (bufferCopyChecks c) P.Refused (P.Plan (planOf (c .src-offset) (c .dst-offset) (bytes c)))
 
 unfoldable pub bufferToBuffer : Device → ℕ → Buffer → ℕ → ℕ → Buffer → ℕ → OptionU64 → BufferPlanned
 bufferToBuffer device i src srcOffset j dst dstOffset size =

@@ -48,8 +48,8 @@ usableCopy device i src srcOffset j dst dstOffset size =
     sizedCopy device src srcOffset dst dstOffset (sizeOr size (src .size - srcOffset))
 
 -- records (source, then destination): 3
-unfoldable pub copyStaged : Device → ℕ → Buffer → ℕ → ℕ → Buffer → ℕ → OptionU64 → BufferPlanned
-copyStaged device i src srcOffset j dst dstOffset size =
+unfoldable pub bufferCopyStaged : Device → ℕ → Buffer → ℕ → ℕ → Buffer → ℕ → OptionU64 → BufferPlanned
+bufferCopyStaged device i src srcOffset j dst dstOffset size =
     after (checked (bufferChecks src Source)) P.Refused $
     after (checked (bufferChecks dst Destination)) P.Refused $
     usableCopy device i src srcOffset j dst dstOffset size

@@ -23,7 +23,7 @@ use Rattle.plan_textures.specs.declared.TexturePlan.{TexturePlan}
 use Rattle.copy_textures.specs.declared.TexturePlanned.{TexturePlanned}
 use Rattle.copy_textures.specs.declared.TexturePlanned.the-variants as P
 use Rattle.copy_textures.specs.Copy.{BetweenTextures, isOneTexture, splits, formatsDiffer, planeWidth, planeHeight, planFor}
-use Rattle.copy_textures.specs.Plan.{planeChecks, copyChecks, textureToTexture}
+use Rattle.copy_textures.specs.Plan.{planeChecks, textureCopyChecks, textureToTexture}
 use Rattle.copy_textures.specs.Laws.{Accepted, planned, EveryCopyLaw}
 
 no-plan : {e : TransferError} {p : TexturePlan} → P.Refused e ≡ P.Plan p → ⊥
@@ -101,9 +101,9 @@ module _ (src : TextureSide) (size : Extent3d) where
 
 module _ (c : BetweenTextures) where
   accepted : (p : TexturePlan) → planned c ≡ P.Plan p → Accepted c × (planFor c ≡ p)
-  unfolding textureToTexture copyChecks textureChecks selectorChecks sameTextureChecks formatsDiffer
+  unfolding textureToTexture textureCopyChecks textureChecks selectorChecks sameTextureChecks formatsDiffer
   accepted p h =
-      let k = none-found TexturePlanned P.Refused (P.Plan (planFor c)) (copyChecks c) (P.Plan p) h (λ e. no-plan) in
+      let k = none-found TexturePlanned P.Refused (P.Plan (planFor c)) (textureCopyChecks c) (P.Plan p) h (λ e. no-plan) in
       let n = k .0 in (
         record {
           src-bounds = not-false _ (alone-fails _ _ (n 0));
@@ -126,9 +126,9 @@ module _ (c : BetweenTextures) where
       )
 
   has-plan : Accepted c → planned c ≡ P.Plan (planFor c)
-  unfolding textureToTexture copyChecks textureChecks selectorChecks sameTextureChecks formatsDiffer
+  unfolding textureToTexture textureCopyChecks textureChecks selectorChecks sameTextureChecks formatsDiffer
   has-plan a =
-      all-pass TexturePlanned P.Refused (P.Plan (planFor c)) (copyChecks c) (
+      all-pass TexturePlanned P.Refused (P.Plan (planFor c)) (textureCopyChecks c) (
         alone-off _ _ (not-no _ (a .src-bounds)),
         (
           alone-off _ _ (not-no _ (a .dst-bounds)),

@@ -20,8 +20,8 @@ use Rattle.records.specs.declared.TextureSide.{TextureSide}
 use Rattle.copy_textures.specs.declared.TexturePlanned.{TexturePlanned}
 use Rattle.copy_textures.specs.declared.TexturePlanned.the-variants as P
 use Rattle.copy_textures.specs.Copy.{isOneTexture, planFor}
-use Rattle.copy_textures.specs.Plan.{copyChecks, textureToTexture}
-use Rattle.copy_textures.specs.Stages.{withinPlane, withinOne, usable, selectedCopy, rangedCopy, copyStaged}
+use Rattle.copy_textures.specs.Plan.{textureCopyChecks, textureToTexture}
+use Rattle.copy_textures.specs.Stages.{withinPlane, withinOne, usable, selectedCopy, rangedCopy, textureCopyStaged}
 
 line-p : (t : Bool) (e : TransferError) (rest : TexturePlanned) → stop-if t (P.Refused e) rest ≡ first (refuse-if t e) P.Refused rest
 line-p t e rest = line TexturePlanned P.Refused t e rest
@@ -36,9 +36,9 @@ past-all : (rest : TexturePlanned) → after C.GoOn P.Refused rest ≡ rest
 unfolding after
 past-all rest = refl
 
-copy-law : (i : ℕ) (src : TextureSide) (j : ℕ) (dst : TextureSide) (size : Extent3d) → copyStaged i src j dst size ≡ textureToTexture i src j dst size
-unfolding copyStaged bothTextureChecks rangedCopy selectedCopy usable withinPlane withinOne rangeChecked selectorChecked baseOf textureToTexture copyChecks isOneTexture planFor decided
+copy-law : (i : ℕ) (src : TextureSide) (j : ℕ) (dst : TextureSide) (size : Extent3d) → textureCopyStaged i src j dst size ≡ textureToTexture i src j dst size
+unfolding textureCopyStaged bothTextureChecks rangedCopy selectedCopy usable withinPlane withinOne rangeChecked selectorChecked baseOf textureToTexture textureCopyChecks isOneTexture planFor decided
 copy-law i src j dst size = simp (line-p, past-found, past-all, past-rule, past-range, past-selector)
 
-pub by-law : (i : ℕ) (src : TextureSide) (j : ℕ) (dst : TextureSide) (size : Extent3d) (x : TexturePlanned) → x ≡ copyStaged i src j dst size → x ≡ textureToTexture i src j dst size
+pub by-law : (i : ℕ) (src : TextureSide) (j : ℕ) (dst : TextureSide) (size : Extent3d) (x : TexturePlanned) → x ≡ textureCopyStaged i src j dst size → x ≡ textureToTexture i src j dst size
 by-law i src j dst size x h = h ∙ copy-law i src j dst size

@@ -26,8 +26,8 @@ planeChecks src size =
     ∷ flatten (dimensionChecks (subjectOf (src .texture) Source) Y (src .view .origin .y) (size .height) (planeHeight src) false)  -- 9
     ∷ []
 
-unfoldable pub copyChecks : BetweenTextures → Checks
-copyChecks c =
+unfoldable pub textureCopyChecks : BetweenTextures → Checks
+textureCopyChecks c =
     flatten (textureChecks (c .src .texture) Source)  -- 2
     ∷ flatten (textureChecks (c .dst .texture) Destination)  -- 2
     ∷ refuse-if (formatsDiffer (c .src) (c .dst) && not (splits c)) (E.TextureFormatsNotCopyCompatible (c .src .texture .format) (c .dst .texture .format))  -- 33
@@ -46,4 +46,4 @@ copyChecks c =
 
 -- the textures are told apart by their indices
 unfoldable pub textureToTexture : ℕ → TextureSide → ℕ → TextureSide → Extent3d → TexturePlanned
-textureToTexture i src j dst size = let c = between i src j dst size in decided (copyChecks c) P.Refused (P.Plan (planFor c))
+textureToTexture i src j dst size = let c = between i src j dst size in decided (textureCopyChecks c) P.Refused (P.Plan (planFor c))

@@ -85,7 +85,7 @@ matchedCopy same split src dst size =
     rangedCopy same split src dst size
 
 -- records: 2 source, 2 destination
-unfoldable pub copyStaged : ℕ → TextureSide → ℕ → TextureSide → Extent3d → TexturePlanned
-copyStaged i src j dst size =
+unfoldable pub textureCopyStaged : ℕ → TextureSide → ℕ → TextureSide → Extent3d → TexturePlanned
+textureCopyStaged i src j dst size =
     after (checked (bothTextureChecks (src .texture) (dst .texture))) P.Refused $
     matchedCopy (eqb i j) (isPlaneSplit src dst) src dst size

@@ -13,6 +13,10 @@ use Rattle.formats.specs.declared.TextureAspect.{TextureAspect}
 use Rattle.formats.specs.declared.TextureAspect.the-variants.{All, StencilOnly, DepthOnly, Plane0, Plane1, Plane2}
 use Rattle.formats.specs.Table.{formatRow, aspectsOf, isMultiPlanar, none}
 
+-- the last number that names an aspect
+abbrev pub lastAspect : ℕ
+lastAspect = 5
+
 -- the aspect of a number, 0 to 5; a larger one, which callers refuse, counts as 5
 unfoldable pub aspectOf : ℕ → TextureAspect
 aspectOf n = getD (All ∷ StencilOnly ∷ DepthOnly ∷ Plane0 ∷ Plane1 ∷ []) n Plane2

@@ -35,6 +35,9 @@ const NV12: u32 = 21;
 
 const PLANES: FormatAspects = FormatAspects(FormatAspects::PLANE_0.0 | FormatAspects::PLANE_1.0);
 
+// The last number that names what a copy may ask for of a texture.
+pub const LAST_ASPECT: u32 = 5;
+
 // What a copy asks for of a texture.
 pub enum TextureAspect {
     All,

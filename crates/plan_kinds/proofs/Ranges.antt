@@ -10,7 +10,7 @@ use Rattle.plan_textures.specs.declared.CopyParts.the-variants.{Whole, DepthSte
 use Rattle.plan_textures.specs.declared.TexturePlan.{TexturePlan}
 use Rattle.plan_textures.specs.declared.TextureRanges.{TextureRanges}
 use Rattle.plan_kinds.specs.declared.Plan.the-variants.{Textures}
-use Rattle.plan_kinds.specs.Regions.{numbersOf, behindOf, texturesWith}
+use Rattle.plan_kinds.specs.Regions.{regionNumbers, behindOf, texturesWith}
 
 module _ (ranges : TextureRanges) where
   region-with : (parts : CopyParts) (p : TexturePlan) → X.regionOf parts (texturesWith ranges p) ≡ X.regionOf parts p
@@ -32,11 +32,11 @@ module _ (ranges : TextureRanges) where
   advanced-with DepthStencil p = part-with (eqb (p .part) 0) p
   advanced-with Planes p = part-with (eqb (p .part) 0) p
 
-  pub numbers-with : (p : TexturePlan) → numbersOf (Textures (texturesWith ranges p)) ≡ numbersOf (Textures p)
-  unfolding numbersOf X.nextOf stop-if
+  pub numbers-with : (p : TexturePlan) → regionNumbers (Textures (texturesWith ranges p)) ≡ regionNumbers (Textures p)
+  unfolding regionNumbers X.nextOf stop-if
   numbers-with p = by (eqb (p .left) 0) refl
     where
-      by : (t : Bool) → eqb (p .left) 0 ≡ t → numbersOf (Textures (texturesWith ranges p)) ≡ numbersOf (Textures p)
+      by : (t : Bool) → eqb (p .left) 0 ≡ t → regionNumbers (Textures (texturesWith ranges p)) ≡ regionNumbers (Textures p)
       by true e = rw e
       by false e = rw (e, region-with (p .parts) p)
 

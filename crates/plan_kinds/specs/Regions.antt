@@ -30,10 +30,10 @@ fieldsOf (BufferTexture p) = 12
 fieldsOf (Textures p) = 15
 
 -- the bytes checked, 0 between textures
-unfoldable pub bytesOf : Plan → ℕ
-bytesOf (Buffers p) = p .«bytes_checked»
-bytesOf (BufferTexture p) = p .«bytes_checked»
-bytesOf (Textures p) = 0
+unfoldable pub bytesChecked : Plan → ℕ
+bytesChecked (Buffers p) = p .«bytes_checked»
+bytesChecked (BufferTexture p) = p .«bytes_checked»
+bytesChecked (Textures p) = 0
 
 -- ---- the next region's numbers, of which there are none past the last, and the plan behind it
 
@@ -49,10 +49,10 @@ unfoldable pub textureNumbers : NextTextureCopy → List ℕ
 textureNumbers (T.Region r) = textureCopyNumbers r
 textureNumbers T.NoneLeft = []
 
-unfoldable pub numbersOf : Plan → List ℕ
-numbersOf (Buffers p) = bufferNumbers (K.nextOf p .answer)
-numbersOf (BufferTexture p) = bufferTextureNumbers (L.nextOf p .answer)
-numbersOf (Textures p) = textureNumbers (X.nextOf p .answer)
+unfoldable pub regionNumbers : Plan → List ℕ
+regionNumbers (Buffers p) = bufferNumbers (K.nextOf p .answer)
+regionNumbers (BufferTexture p) = bufferTextureNumbers (L.nextOf p .answer)
+regionNumbers (Textures p) = textureNumbers (X.nextOf p .answer)
 
 unfoldable pub behindOf : Plan → Plan
 behindOf (Buffers p) = Buffers (K.nextOf p .plan)
@@ -60,13 +60,13 @@ behindOf (BufferTexture p) = BufferTexture (L.nextOf p .plan)
 behindOf (Textures p) = Textures (X.nextOf p .plan)
 
 unfoldable pub nextOf : Plan → AskedRow
-nextOf p = record { row = rowOf (numbersOf p); plan = behindOf p }
+nextOf p = record { row = rowOf (regionNumbers p); plan = behindOf p }
 
 -- ---- the regions left, each by asking the plan that the one before handed back
 
 unfoldable pub regionsFrom : ℕ → Plan → List (List ℕ)
 regionsFrom zero p = []
-regionsFrom (suc n) p = numbersOf p ∷ regionsFrom n (behindOf p)
+regionsFrom (suc n) p = regionNumbers p ∷ regionsFrom n (behindOf p)
 
 unfoldable pub regionsLeft : Plan → List (List ℕ)
 regionsLeft p = regionsFrom (leftOf p) p

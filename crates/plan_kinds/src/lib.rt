@@ -2,7 +2,7 @@
 ghost use mathlib.Core.Path.{_≡_};
 ghost use mathlib.Core.List.{[]};
 ghost use Rattle.plan_rows.specs.Rows.{rowOf};
-ghost use Rattle.plan_kinds.specs.Regions.{leftOf, bytesOf, bufferNumbers, bufferTextureNumbers, textureNumbers, nextOf};
+ghost use Rattle.plan_kinds.specs.Regions.{leftOf, bytesChecked, bufferNumbers, bufferTextureNumbers, textureNumbers, nextOf};
 use plan_buffer_texture::BufferTexturePlan;
 use plan_buffer_texture::NextBufferTextureCopy;
 use plan_buffers::BufferPlan;
@@ -112,7 +112,7 @@ impl Plan {
 
     // The bytes that the copy was held to.
     pub fn bytes_checked(self) -> u64
-        ensures { λ r. ⌜ r ≡ bytesOf self ⌝ }
+        ensures { λ r. ⌜ r ≡ bytesChecked self ⌝ }
     {
         match self {
             Plan::Buffers(p) => p.bytes_checked,

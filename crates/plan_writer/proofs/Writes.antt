@@ -26,7 +26,7 @@ use Rattle.plan_textures.specs.Asking as X
 use Rattle.plan_rows.proofs.Fronts.{row-count, row-numbers, row-inside}
 use Rattle.plan_kinds.specs.declared.Plan.{Plan}
 use Rattle.plan_kinds.specs.declared.Plan.the-variants.{Buffers, BufferTexture, Textures}
-use Rattle.plan_kinds.specs.Regions.{leftOf, fieldsOf, bufferNumbers, bufferTextureNumbers, textureNumbers, numbersOf, behindOf, texturesWith}
+use Rattle.plan_kinds.specs.Regions.{leftOf, fieldsOf, bufferNumbers, bufferTextureNumbers, textureNumbers, regionNumbers, behindOf, texturesWith}
 use Rattle.plan_kinds.proofs.Behind.{behind-left}
 use Rattle.plan_kinds.proofs.Ranges.{numbers-with, behind-with}
 use Rattle.plan_writer.specs.Writing.{numbersFrom, numbersLeft, behindAll, fits, slotsOf, writtenOf, EveryEntry}
@@ -38,8 +38,8 @@ some h e = omega arith
 
 module _ where
   -- a plan that has a region left gives as many numbers as a region has
-  pub numbers-count : (p : Plan) → 0 < leftOf p → length (numbersOf p) ≡ fieldsOf p
-  unfolding leftOf fieldsOf numbersOf K.nextOf L.nextOf X.nextOf stop-if bufferNumbers bufferTextureNumbers textureNumbers bufferCopyNumbers bufferTextureCopyNumbers textureCopyNumbers
+  pub numbers-count : (p : Plan) → 0 < leftOf p → length (regionNumbers p) ≡ fieldsOf p
+  unfolding leftOf fieldsOf regionNumbers K.nextOf L.nextOf X.nextOf stop-if bufferNumbers bufferTextureNumbers textureNumbers bufferCopyNumbers bufferTextureCopyNumbers textureCopyNumbers
   numbers-count (Buffers p) h = rw (ne-eqb (p .left) 0 (some h))
   numbers-count (BufferTexture p) h = rw (ne-eqb (p .left) 0 (some h))
   numbers-count (Textures p) h = rw (ne-eqb (p .left) 0 (some h))
@@ -69,7 +69,7 @@ pub begun : (l : List ℕ) (p : Plan) → leftOf p * fieldsOf p ≤ length l →
 begun l p h = record { room = omega arith; same = refl; plan = refl; slots = refl }
 
 module _ {l₀ l : List ℕ} {p₀ p : Plan} {at : ℕ} (u : Underway l₀ l p₀ p at) (h : 0 < leftOf p) where
-  pub region-few : length (numbersOf p) ≤ 15
+  pub region-few : length (regionNumbers p) ≤ 15
   region-few = omega (arith, numbers-count p h, fields-few p)
 
   one-of : leftOf p * fieldsOf p ≡ fieldsOf p + (leftOf p - 1) * fieldsOf p
@@ -79,27 +79,27 @@ module _ {l₀ l : List ℕ} {p₀ p : Plan} {at : ℕ} (u : Underway l₀ l p�
   fewer e = rw e (omega (arith, behind-left p h))
 
   -- the row that was asked for holds the region's numbers
-  module _ (row : Row) (is : row ≡ rowOf (numbersOf p)) where
+  module _ (row : Row) (is : row ≡ rowOf (regionNumbers p)) where
     pub row-held : row .count ≤ length (row .values)
-    row-held = row-inside (numbersOf p) region-few row is
+    row-held = row-inside (regionNumbers p) region-few row is
 
     pub row-room : at + row .count ≤ length l
-    row-room = omega (arith, row-count (numbersOf p) region-few row is, numbers-count p h, one-of, u .room)
+    row-room = omega (arith, row-count (regionNumbers p) region-few row is, numbers-count p h, one-of, u .room)
 
     pub again : (m : List ℕ) (next : Plan) (r : ℕ) → next ≡ behindOf p → Put l m at (take (row .count) (row .values)) r → Underway l₀ m p₀ next r
     unfolding numbersLeft numbersFrom behindAll
     again m next r on put =
-        let o : Put l m at (numbersOf p) r = put-as put (row-numbers (numbersOf p) region-few row is) in
+        let o : Put l m at (regionNumbers p) r = put-as put (row-numbers (regionNumbers p) region-few row is) in
         let less : leftOf (behindOf p) ≡ leftOf p - 1 = behind-left p h in
         let n : leftOf p ≡ suc (leftOf (behindOf p)) = omega (arith, less) in
         let b : behindAll (leftOf p) p ≡ behindAll (leftOf (behindOf p)) (behindOf p) = ap (λ (k : ℕ). behindAll k p) n in
-        let f : numbersLeft p ≡ numbersOf p ++ numbersLeft (behindOf p) = ap (λ (k : ℕ). numbersFrom k p) n in
+        let f : numbersLeft p ≡ regionNumbers p ++ numbersLeft (behindOf p) = ap (λ (k : ℕ). numbersFrom k p) n in
         rw on
         (record {
           room = rw (behind-fields p, less) (omega (arith, numbers-count p h, one-of, u .room, o .next, put-length o));
           same = put-length o ∙ u .same;
           plan = sym b ∙ u .plan;
-          slots = rw (o .next, o .numbers) (sym (sets-append (numbersOf p) (numbersLeft (behindOf p)) l at) ∙ sym (ap (λ (ns : List ℕ). sets l at ns) f) ∙ u .slots);
+          slots = rw (o .next, o .numbers) (sym (sets-append (regionNumbers p) (numbersLeft (behindOf p)) l at) ∙ sym (ap (λ (ns : List ℕ). sets l at ns) f) ∙ u .slots);
         })
 
 pub ended : {l₀ l : List ℕ} {p₀ p : Plan} {at : ℕ} → Underway l₀ l p₀ p at → leftOf p ≤ 0 → (p ≡ behindAll (leftOf p₀) p₀) × (l ≡ sets l₀ 0 (numbersLeft p₀))
@@ -112,8 +112,8 @@ ended {l = l} {p = p} {at = at} u h =
 
 -- the loop that leaves the ranges out, seen with them
 module _ (ranges : TextureRanges) (p : TexturePlan) (asked : AskedTexture) (is : asked ≡ X.nextOf p) where
-  pub row-with : (row : Row) → row ≡ rowOf (textureNumbers (asked .answer)) → row ≡ rowOf (numbersOf (Textures (texturesWith ranges p)))
-  unfolding numbersOf
+  pub row-with : (row : Row) → row ≡ rowOf (textureNumbers (asked .answer)) → row ≡ rowOf (regionNumbers (Textures (texturesWith ranges p)))
+  unfolding regionNumbers
   row-with row e = e ∙ ap (λ (a : AskedTexture). rowOf (textureNumbers (a .answer))) is ∙ sym (ap rowOf (numbers-with ranges p))
 
   pub next-with : (q : TexturePlan) → q ≡ texturesWith Absent (asked .plan) → Textures (texturesWith ranges q) ≡ behindOf (Textures (texturesWith ranges p))
@@ -142,20 +142,20 @@ fits-by p left fields room e f = rw (e, f)
 
 entry :
     (n k f : ℕ) (p : Plan) → leftOf p ≡ n → k < n → f < fieldsOf p
-    → getD (numbersFrom n p) (k * fieldsOf p + f) 0 ≡ getD (numbersOf (behindAll k p)) f 0
+    → getD (numbersFrom n p) (k * fieldsOf p + f) 0 ≡ getD (regionNumbers (behindAll k p)) f 0
 unfolding numbersFrom behindAll
 entry zero k f p e h g = absurd (omega arith)
 entry (suc n) zero f p e h g =
-    let c : length (numbersOf p) ≡ fieldsOf p = numbers-count p (omega (arith, e)) in
+    let c : length (regionNumbers p) ≡ fieldsOf p = numbers-count p (omega (arith, e)) in
     let z : 0 * fieldsOf p + f ≡ f = omega arith in
-    rw z (List·getD-append (numbersOf p) (numbersFrom n (behindOf p)) 0 f (omega (arith, c)))
+    rw z (List·getD-append (regionNumbers p) (numbersFrom n (behindOf p)) 0 f (omega (arith, c)))
 entry (suc n) (suc k) f p e h g =
     let some : 0 < leftOf p = omega (arith, e) in
-    let c : length (numbersOf p) ≡ fieldsOf p = numbers-count p some in
-    let z : suc k * fieldsOf p + f ≡ length (numbersOf p) + (k * fieldsOf p + f) = omega (arith, c, suc-mul k (fieldsOf p)) in
+    let c : length (regionNumbers p) ≡ fieldsOf p = numbers-count p some in
+    let z : suc k * fieldsOf p + f ≡ length (regionNumbers p) + (k * fieldsOf p + f) = omega (arith, c, suc-mul k (fieldsOf p)) in
     let left : leftOf (behindOf p) ≡ n = behind-left p some ∙ omega (arith, e) in
     let on = entry n k f (behindOf p) left (omega arith) (rw (behind-fields p) g) in
-    rw z (getD-append-add (numbersOf p) (numbersFrom n (behindOf p)) (k * fieldsOf p + f) 0 ∙ ap (λ (w : ℕ). getD (numbersFrom n (behindOf p)) (k * w + f) 0) (sym (behind-fields p)) ∙ on)
+    rw z (getD-append-add (regionNumbers p) (numbersFrom n (behindOf p)) (k * fieldsOf p + f) 0 ∙ ap (λ (w : ℕ). getD (numbersFrom n (behindOf p)) (k * w + f) 0) (sym (behind-fields p)) ∙ on)
 
 pub every-entry : EveryEntry
 unfolding numbersLeft

@@ -10,13 +10,13 @@ use Rattle.conditions.specs.Conditions.{pick}
 use Rattle.refusals.specs.declared.TransferError.the-variants.{RegionSliceTooShort}
 use Rattle.refusals.specs.declared.Checked.the-variants.{GoOn, Refused}
 use Rattle.plan_kinds.specs.declared.Plan.{Plan}
-use Rattle.plan_kinds.specs.Regions.{leftOf, fieldsOf, numbersOf, behindOf}
+use Rattle.plan_kinds.specs.Regions.{leftOf, fieldsOf, regionNumbers, behindOf}
 use Rattle.plan_writer.specs.declared.Written.{Written}
 
 -- n regions' numbers, region after region
 unfoldable pub numbersFrom : ℕ → Plan → List ℕ
 numbersFrom zero p = []
-numbersFrom (suc n) p = numbersOf p ++ numbersFrom n (behindOf p)
+numbersFrom (suc n) p = regionNumbers p ++ numbersFrom n (behindOf p)
 
 unfoldable pub numbersLeft : Plan → List ℕ
 numbersLeft p = numbersFrom (leftOf p) p
@@ -45,4 +45,4 @@ writtenOf p room =
 abbrev pub EveryEntry : Type 0
 EveryEntry =
     (p : Plan) (k f : ℕ) → k < leftOf p → f < fieldsOf p
-    → getD (numbersLeft p) (k * fieldsOf p + f) 0 ≡ getD (numbersOf (behindAll k p)) f 0
+    → getD (numbersLeft p) (k * fieldsOf p + f) 0 ≡ getD (regionNumbers (behindAll k p)) f 0

@@ -102,4 +102,7 @@ textureChecks t side = refuse-if (not (textureInBounds t)) (InvalidTextureRecord
 
 -- those of a copy between textures
 unfoldable pub bothTextureChecks : Texture → Texture → Checks
-bothTextureChecks src dst = flatten (textureChecks src Source) ∷ flatten (textureChecks dst Destination) ∷ []
+bothTextureChecks src dst =
+    flatten (textureChecks src Source)  -- 2
+    ∷ flatten (textureChecks dst Destination)  -- 2
+    ∷ []

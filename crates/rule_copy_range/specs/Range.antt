@@ -84,9 +84,9 @@ arrayLayerCount t size = layersOf (textureDimension (t .dimension)) (size .«dep
 -- X, Y and Z in turn; on Z, where a slice or a layer counts as a texel, a part is always allowed
 unfoldable pub sideChecks : Subject → Origin3d → Extent3d → Extent3d → Bool → Checks
 sideChecks of o size extent exact =
-    flatten (dimensionChecks of X (o .x) (size .width) (extent .width) exact)
-    ∷ flatten (dimensionChecks of Y (o .y) (size .height) (extent .height) exact)
-    ∷ flatten (dimensionChecks of Z (texels (o .z)) (texels (size .«depth_or_array_layers»)) (texels (extent .«depth_or_array_layers»)) false)
+    flatten (dimensionChecks of X (o .x) (size .width) (extent .width) exact)  -- 10, 9
+    ∷ flatten (dimensionChecks of Y (o .y) (size .height) (extent .height) exact)  -- 10, 9
+    ∷ flatten (dimensionChecks of Z (texels (o .z)) (texels (size .«depth_or_array_layers»)) (texels (extent .«depth_or_array_layers»)) false)  -- 9
     ∷ []
 
 -- whole blocks

@@ -9,14 +9,14 @@ use borrow.Author.Tests.{lt-ltb}
 use Rattle.conditions.specs.Conditions.{pick}
 use Rattle.conditions.proofs.Rules.{flag-lines}
 use Rattle.refusals.specs.declared.TransferError.the-variants as E
-use Rattle.rule_linear_data.specs.declared.Whole.{Whole}
-use Rattle.rule_linear_data.specs.declared.Whole.the-variants.{Fits, Over}
+use Rattle.rule_linear_data.specs.declared.CheckedU64.{CheckedU64}
+use Rattle.rule_linear_data.specs.declared.CheckedU64.the-variants.{Fits, Over}
 use Rattle.rule_linear_data.specs.declared.LinearData.{LinearData}
 use Rattle.rule_linear_data.specs.declared.LinearChecked.{LinearChecked}
 use Rattle.rule_linear_data.specs.declared.LinearChecked.the-variants.{GoOn, Refused}
 use Rattle.rule_linear_data.specs.Stages.{fitting, below-2^64}
 
-module _ (w : Whole) (n : ℕ) (k : ℕ → LinearChecked) (x : LinearChecked) where
+module _ (w : CheckedU64) (n : ℕ) (k : ℕ → LinearChecked) (x : LinearChecked) where
   passes : (v : ℕ) (t : Bool) → w ≡ pick t (Fits n) Over → w ≡ Fits v → x ≡ k v → x ≡ pick t (k n) (Refused E.SizeOverflow)
   passes v true p q h = let e : v ≡ n = cc in rw e at h
   passes v false p q h = let z : _≡_ {A = ℕ} 0 1 = cc in absurd (omega arith)

@@ -15,8 +15,8 @@ use Rattle.formats.specs.declared.TextureAspect.{TextureAspect}
 use Rattle.formats.specs.Aspects.{blockCopySize}
 use Rattle.formats.specs.Laws.{maxBlockBytes}
 use Rattle.formats.proofs.Rows.{every-format}
-use Rattle.rule_linear_data.specs.declared.Whole.{Whole}
-use Rattle.rule_linear_data.specs.declared.Whole.the-variants.{Fits, Over}
+use Rattle.rule_linear_data.specs.declared.CheckedU64.{CheckedU64}
+use Rattle.rule_linear_data.specs.declared.CheckedU64.the-variants.{Fits, Over}
 use Rattle.rule_linear_data.specs.Linear.{blockBytes}
 use Rattle.rule_linear_data.specs.Stages.{fitting}
 
@@ -29,7 +29,7 @@ unfolding fitting
 over n h = rw (le-ltb n (2 ^ 64) h)
 
 -- the other way
-pub fits-of : (n : ℕ) {w : Whole} {v : ℕ} → w ≡ fitting n → w ≡ Fits v → n ≡ v
+pub fits-of : (n : ℕ) {w : CheckedU64} {v : ℕ} → w ≡ fitting n → w ≡ Fits v → n ≡ v
 unfolding fitting
 fits-of n {w} {v} e q = go (ltb n (2 ^ 64)) e
   where
@@ -37,7 +37,7 @@ fits-of n {w} {v} e q = go (ltb n (2 ^ 64)) e
     go true p = cc
     go false p = let z : _≡_ {A = ℕ} 0 1 = cc in absurd (omega arith)
 
-pub over-of : (n : ℕ) {w : Whole} → w ≡ fitting n → w ≡ Over → 2 ^ 64 ≤ n
+pub over-of : (n : ℕ) {w : CheckedU64} → w ≡ fitting n → w ≡ Over → 2 ^ 64 ≤ n
 unfolding fitting
 over-of n {w} e q = go (ltb n (2 ^ 64)) refl e
   where

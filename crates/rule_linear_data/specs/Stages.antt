@@ -5,8 +5,8 @@ use Rattle.conditions.specs.Conditions.{pick, stop-if, _$_}
 use Rattle.refusals.specs.declared.CopySide.{CopySide}
 use Rattle.refusals.specs.declared.TransferError.the-variants as E
 use Rattle.records.specs.declared.TexelCopyBufferLayout.{TexelCopyBufferLayout}
-use Rattle.rule_linear_data.specs.declared.Whole.{Whole}
-use Rattle.rule_linear_data.specs.declared.Whole.the-variants.{Fits, Over}
+use Rattle.rule_linear_data.specs.declared.CheckedU64.{CheckedU64}
+use Rattle.rule_linear_data.specs.declared.CheckedU64.the-variants.{Fits, Over}
 use Rattle.rule_linear_data.specs.declared.Dense.{Dense}
 use Rattle.rule_linear_data.specs.declared.Span.{Span}
 use Rattle.rule_linear_data.specs.declared.LinearChecked.{LinearChecked}
@@ -14,7 +14,7 @@ use Rattle.rule_linear_data.specs.declared.LinearChecked.the-variants.{G
 use Rattle.rule_linear_data.specs.Linear.{stacked, severalRows, severalImages, rowStride, imageRows, spanOf, dataOf, isBelow, lacks}
 
 -- a number as 64 bits hold it
-unfoldable pub fitting : ℕ → Whole
+unfoldable pub fitting : ℕ → CheckedU64
 fitting n = pick (ltb n (2 ^ 64)) (Fits n) Over
 
 -- the rest at n, or 25 where n reaches 2 ^ 64

@@ -14,7 +14,7 @@ use refusals::CopySide;
 use refusals::TransferError;
 
 // A product or a sum, where 64 bits hold it.
-pub enum Whole {
+pub enum CheckedU64 {
     Fits(u64),
     Over,
 }
@@ -45,37 +45,37 @@ pub enum LinearChecked {
     Refused(TransferError),
 }
 
-fn times(a: u64, b: u64) -> Whole
+fn times(a: u64, b: u64) -> CheckedU64
     ensures { λ r. ⌜ r ≡ fitting (a * b) ⌝ }
 {
     if a == 0 {
-        return Whole::Fits(0);
+        return CheckedU64::Fits(0);
     }
     if b <= u64::MAX / a {
-        return Whole::Fits(a * b);
+        return CheckedU64::Fits(a * b);
     }
-    Whole::Over
+    CheckedU64::Over
 }
 
-fn plus(a: u64, b: u64) -> Whole
+fn plus(a: u64, b: u64) -> CheckedU64
     ensures { λ r. ⌜ r ≡ fitting (a + b) ⌝ }
 {
     if b <= u64::MAX - a {
-        return Whole::Fits(a + b);
+        return CheckedU64::Fits(a + b);
     }
-    Whole::Over
+    CheckedU64::Over
 }
 
 // A stride for each item but the last, and the last.
-fn stacked(items: u64, stride: u64, last: u64) -> Whole
+fn stacked(items: u64, stride: u64, last: u64) -> CheckedU64
     ensures { λ r. ⌜ r ≡ fitting (stackedOf items stride last) ⌝ }
 {
     if items == 0 {
-        return Whole::Fits(0);
+        return CheckedU64::Fits(0);
     }
     let product = times(items - 1, stride);
-    let Whole::Fits(bytes) = product else {
-        return Whole::Over;
+    let CheckedU64::Fits(bytes) = product else {
+        return CheckedU64::Over;
     };
     plus(bytes, last)
 }
@@ -188,15 +188,15 @@ fn measure(
     ensures { λ r. ⌜ r ≡ measured layout «buffer_size» side d «row_stride» «image_rows» ⌝ }
 {
     let stride = times(image_rows, row_stride);
-    let Whole::Fits(image_stride) = stride else {
+    let CheckedU64::Fits(image_stride) = stride else {
         return LinearChecked::Refused(TransferError::SizeOverflow);
     };
     let image = stacked(d.rows.0 as u64, row_stride, d.row_bytes);
-    let Whole::Fits(image_bytes) = image else {
+    let CheckedU64::Fits(image_bytes) = image else {
         return LinearChecked::Refused(TransferError::SizeOverflow);
     };
     let all = stacked(d.images, image_stride, image_bytes);
-    let Whole::Fits(total) = all else {
+    let CheckedU64::Fits(total) = all else {
         return LinearChecked::Refused(TransferError::SizeOverflow);
     };
     check_span(

@@ -18,7 +18,7 @@ use Rattle.sheet_fields.specs.declared.Field.the-variants as F
 use Rattle.sheet_fields.specs.declared.Rule.{Rule}
 use Rattle.sheet_fields.specs.Codes.{ruleOf}
 use Rattle.sheet_fields.specs.Field.{token, allDigits, valueFrom, decimalOf, isDash, notBelow, tokenOf, fieldUpTo, fieldOf}
-use Rattle.sheet_fields.specs.Line.{Fields, ill, got, consed, after-field, separatorOf, fieldsOf, lineWith, lineValues, lineOf}
+use Rattle.sheet_fields.specs.Line.{Fields, ill, got, consed, after-field, separatorOf, fieldsIn, lineWith, lineValues, lineOf}
 use Rattle.sheet_fields.specs.Laws.{Within, Absent, FieldLaws}
 use Rattle.sheet_fields.proofs.LineLaws.{stored}
 
@@ -116,15 +116,15 @@ of-rest c cs v (got ws h m) vs g n fit rest e = let f : v ∷ ws ≡ vs = cc in 
 
 of-field :
     (s : List ℕ) (c at sep : ℕ) (cs : List ℕ) (f : Field) (vs : List ℕ) (g : Bool) (n : ℕ) → fieldOf s at c sep ≡ f
-    → ((from : ℕ) (gone : Bool) (ws : List ℕ) (h : Bool) (m : ℕ) → fieldsOf s cs from gone ≡ got ws h m → AllFit cs ws)
-    → after-field f (λ v g next. consed v (fieldsOf s cs next g)) ≡ got vs g n → AllFit (c ∷ cs) vs
+    → ((from : ℕ) (gone : Bool) (ws : List ℕ) (h : Bool) (m : ℕ) → fieldsIn s cs from gone ≡ got ws h m → AllFit cs ws)
+    → after-field f (λ v g next. consed v (fieldsIn s cs next g)) ≡ got vs g n → AllFit (c ∷ cs) vs
 unfolding after-field
 of-field s c at sep cs (F.At v h m) vs g n is rest e =
-    of-rest c cs v (fieldsOf s cs m h) vs g n (fit-by (ruleOf c) v h (field-read s at c sep v m h is)) (rest m h) e
+    of-rest c cs v (fieldsIn s cs m h) vs g n (fit-by (ruleOf c) v h (field-read s at c sep v m h is)) (rest m h) e
 of-field s c at sep cs F.Ill vs g n is rest e = absurd (ill-not-got e)
 
-fields-fit : (s codes : List ℕ) (at : ℕ) (gone : Bool) (vs : List ℕ) (g : Bool) (n : ℕ) → fieldsOf s codes at gone ≡ got vs g n → AllFit codes vs
-unfolding fieldsOf
+fields-fit : (s codes : List ℕ) (at : ℕ) (gone : Bool) (vs : List ℕ) (g : Bool) (n : ℕ) → fieldsIn s codes at gone ≡ got vs g n → AllFit codes vs
+unfolding fieldsIn
 fields-fit s [] at gone vs g n e = let f : [] ≡ vs = cc in rw (← f) (record { same = refl; each = λ i h. absurd (omega arith) })
 fields-fit s (c ∷ cs) at gone vs g n e = of-field s c at (separatorOf (length (c ∷ cs))) cs _ vs g n refl (λ from gone ws h m. fields-fit s cs from gone ws h m) e
 
@@ -143,7 +143,7 @@ line-value :
     (s codes : List ℕ) (at i : ℕ) → length codes ≤ lineValues → lineOf s codes at .good ≡ true → i < length codes
     → Fit (ruleOf (getD codes i 0)) (getD (lineOf s codes at .values) i 0)
 unfolding lineOf
-line-value s codes at i few e h = of-line codes i (fieldsOf s codes at false) (λ vs g n q. fields-fit s codes at false vs g n q) few e h
+line-value s codes at i few e h = of-line codes i (fieldsIn s codes at false) (λ vs g n q. fields-fit s codes at false vs g n q) few e h
 
 not-absent : (rule : Rule) (v : ℕ) → Fit rule v → rule .dash ≡ false → Within rule v
 not-absent rule v f d = ⊎-elim (λ w. w) (λ a. let t : true ≡ false = sym (a .0) ∙ d in let z : _≡_ {A = ℕ} 0 1 = cc in absurd (omega arith)) f

@@ -11,7 +11,7 @@ use lib.Seq.{drop-cons, sets, sets-eq}
 use Rattle.sheet_fields.specs.declared.Field.{Field}
 use Rattle.sheet_fields.specs.declared.Field.the-variants as F
 use Rattle.sheet_fields.specs.Field.{fieldOf}
-use Rattle.sheet_fields.specs.Line.{Fields, ill, got, consed, after-field, separatorOf, fieldsOf, lineWith, lineValues}
+use Rattle.sheet_fields.specs.Line.{Fields, ill, got, consed, after-field, separatorOf, fieldsIn, lineWith, lineValues}
 
 -- a value more is a store more
 set-on : (vs : List ℕ) (i v : ℕ) (f : Fields) → lineWith (set vs i v) (suc i) f ≡ lineWith vs i (consed v f)
@@ -26,16 +26,16 @@ module _ (s codes vs : List ℕ) (i at : ℕ) (gone : Bool) (inside : i < length
       let l : length codes - i ≡ suc (length (drop (suc i) codes)) = simp length-drop (omega arith) in
       rw (← l, ← is-sep) e
 
-  pub line-on : (v : ℕ) (g : Bool) (n : ℕ) → f ≡ F.At v g n → lineWith (set vs i v) (i + 1) (fieldsOf s (drop (i + 1) codes) n g) ≡ lineWith vs i (fieldsOf s (drop i codes) at gone)
-  unfolding fieldsOf after-field
-  line-on v g n q = rw (drop-cons codes i 0 inside, ← here, q, add-one i) (set-on vs i v (fieldsOf s (drop (suc i) codes) n g))
+  pub line-on : (v : ℕ) (g : Bool) (n : ℕ) → f ≡ F.At v g n → lineWith (set vs i v) (i + 1) (fieldsIn s (drop (i + 1) codes) n g) ≡ lineWith vs i (fieldsIn s (drop i codes) at gone)
+  unfolding fieldsIn after-field
+  line-on v g n q = rw (drop-cons codes i 0 inside, ← here, q, add-one i) (set-on vs i v (fieldsIn s (drop (suc i) codes) n g))
 
-  pub line-off : f ≡ F.Ill → lineWith (replicate lineValues 0) 0 ill ≡ lineWith vs i (fieldsOf s (drop i codes) at gone)
-  unfolding fieldsOf after-field lineWith
+  pub line-off : f ≡ F.Ill → lineWith (replicate lineValues 0) 0 ill ≡ lineWith vs i (fieldsIn s (drop i codes) at gone)
+  unfolding fieldsIn after-field lineWith
   line-off q = rw (drop-cons codes i 0 inside, ← here, q)
 
-pub line-all : (s codes vs : List ℕ) (i at : ℕ) (gone : Bool) → length codes ≤ i → record { good = true; next = at; gone = gone; values = vs } ≡ lineWith vs i (fieldsOf s (drop i codes) at gone)
-unfolding fieldsOf lineWith
+pub line-all : (s codes vs : List ℕ) (i at : ℕ) (gone : Bool) → length codes ≤ i → record { good = true; next = at; gone = gone; values = vs } ≡ lineWith vs i (fieldsIn s (drop i codes) at gone)
+unfolding fieldsIn lineWith
 line-all s codes vs i at gone h = rw (drop-of-length-le codes h)
 
 -- what was stored from the start on

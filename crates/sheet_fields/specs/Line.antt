@@ -33,11 +33,11 @@ unfoldable pub separatorOf : ℕ → ℕ
 separatorOf left = pick (eqb left 1) 10 32
 
 -- fields by their codes, from a place on
-unfoldable pub fieldsOf : List ℕ → List ℕ → ℕ → Bool → Fields
-fieldsOf s [] at gone = got [] gone at
-fieldsOf s (c ∷ cs) at gone =
+unfoldable pub fieldsIn : List ℕ → List ℕ → ℕ → Bool → Fields
+fieldsIn s [] at gone = got [] gone at
+fieldsIn s (c ∷ cs) at gone =
     after-field (fieldOf s at c (separatorOf (length (c ∷ cs)))) λ v g next.
-    consed v (fieldsOf s cs next g)
+    consed v (fieldsIn s cs next g)
 
 -- as a line: the values stored among others from an index on
 unfoldable pub lineWith : List ℕ → ℕ → Fields → Line
@@ -46,4 +46,4 @@ lineWith vs i (got ws gone next) = record { good = true; next = next; gone = gon
 
 -- behind a line's own values are zeros
 unfoldable pub lineOf : List ℕ → List ℕ → ℕ → Line
-lineOf s codes at = lineWith (replicate lineValues 0) 0 (fieldsOf s codes at false)
+lineOf s codes at = lineWith (replicate lineValues 0) 0 (fieldsIn s codes at false)

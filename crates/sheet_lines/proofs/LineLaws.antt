@@ -31,7 +31,7 @@ use Rattle.plan_kinds.specs.declared.AskedRow.{AskedRow}
 use Rattle.copy_kinds.specs.declared.Planned.{Planned}
 use Rattle.copy_kinds.specs.declared.Planned.the-variants as P
 use Rattle.copy_kinds.specs.Ranges.{countOf}
-use Rattle.plan_kinds.specs.Regions.{leftOf, bytesOf, bufferNumbers, bufferTextureNumbers, textureNumbers, numbersOf, behindOf, nextOf}
+use Rattle.plan_kinds.specs.Regions.{leftOf, bytesChecked, bufferNumbers, bufferTextureNumbers, textureNumbers, regionNumbers, behindOf, nextOf}
 use Rattle.sheet_lines.specs.Lines.{sheetWord, textureWord, bufferWord, okWord, refusedWord, regionWord, sheetText, rangeText, rangesText, copyText, planText, refusalText, answerText, regionText}
 
 -- ---- counts of numbers
@@ -63,13 +63,13 @@ unfolding textureNumbers textureCopyNumbers
 texture-few (T.Region r) = omega arith
 texture-few T.NoneLeft = omega arith
 
-pub numbers-few : (p : Plan) → length (numbersOf p) ≤ 15
-unfolding numbersOf
+pub numbers-few : (p : Plan) → length (regionNumbers p) ≤ 15
+unfolding regionNumbers
 numbers-few (Buffers p) = buffer-few _
 numbers-few (BufferTexture p) = buffer-texture-few _
 numbers-few (Textures p) = texture-few _
 
-pub asked-row : (p : Plan) (a : AskedRow) → a ≡ nextOf p → a .row ≡ rowOf (numbersOf p)
+pub asked-row : (p : Plan) (a : AskedRow) → a ≡ nextOf p → a .row ≡ rowOf (regionNumbers p)
 unfolding nextOf
 asked-row p a e = ap (λ (q : AskedRow). q .row) e
 
@@ -77,7 +77,7 @@ pub asked-plan : (p : Plan) (a : AskedRow) → a ≡ nextOf p → a .plan ≡ be
 unfolding nextOf
 asked-plan p a e = ap (λ (q : AskedRow). q .plan) e
 
-pub region-fits : (p : Plan) → 1 + (21 * length (numbersOf p) + 1) ≤ 1024
+pub region-fits : (p : Plan) → 1 + (21 * length (regionNumbers p) + 1) ≤ 1024
 region-fits p = omega (arith, numbers-few p)
 
 -- ---- a row's line
@@ -116,7 +116,7 @@ module _ {l m : List ℕ} {at a : ℕ} {t : List ℕ} (p : Put l m at t a) where
 pub plan-put :
     {l m n o : List ℕ} {at a b q : ℕ} (k : ℕ) (p : Plan) (r : Ranges) (x y z : ℕ) → Put l m at (copyText k) a
     → Put m n a (lineText okWord false (x ∷ y ∷ z ∷ [])) b → Put n o b (rangesText r) q
-    → x ≡ leftOf p → y ≡ countOf r → z ≡ bytesOf p → Put l o at (planText k p r) q
+    → x ≡ leftOf p → y ≡ countOf r → z ≡ bytesChecked p → Put l o at (planText k p r) q
 unfolding planText
 plan-put k p r x y z c h g ex ey ez = put-then c (rw (← ex, ← ey, ← ez) (put-then h g))
 
@@ -128,7 +128,7 @@ sheet-few n = omega (arith, line-few sheetWord false (n ∷ []))
 
 pub region-few : (p : Plan) → length (regionText p) ≤ 1024
 unfolding regionText
-region-few p = omega (arith, line-few regionWord true (numbersOf p), numbers-few p)
+region-few p = omega (arith, line-few regionWord true (regionNumbers p), numbers-few p)
 
 ranges-few : (r : Ranges) → length (rangesText r) ≤ 428
 unfolding rangesText
@@ -141,8 +141,8 @@ ranges-few r =
 pub answer-few : (k : ℕ) (a : Planned) → length (answerText k a) ≤ 1024
 unfolding answerText planText refusalText
 answer-few k (P.Plan p r) =
-    let line = lineText okWord false (leftOf p ∷ countOf r ∷ bytesOf p ∷ []) in
-    omega (arith, length-append (copyText k) (line ++ rangesText r), length-append line (rangesText r), copy-few k, line-few okWord false (leftOf p ∷ countOf r ∷ bytesOf p ∷ []), ranges-few r)
+    let line = lineText okWord false (leftOf p ∷ countOf r ∷ bytesChecked p ∷ []) in
+    omega (arith, length-append (copyText k) (line ++ rangesText r), length-append line (rangesText r), copy-few k, line-few okWord false (leftOf p ∷ countOf r ∷ bytesChecked p ∷ []), ranges-few r)
 answer-few k (P.Refused why) =
     omega (arith, length-append (copyText k) (lineText refusedWord false (refusalNumbers why)), copy-few k, line-few refusedWord false (refusalNumbers why), refusal-count why)
 
@@ -161,7 +161,7 @@ region-some p = line-some _ _ _
 pub answer-some : (k : ℕ) (a : Planned) → 0 < length (answerText k a)
 unfolding answerText planText refusalText
 answer-some k (P.Plan p r) =
-    let line = lineText okWord false (leftOf p ∷ countOf r ∷ bytesOf p ∷ []) in
-    omega (arith, length-append (copyText k) (line ++ rangesText r), length-append line (rangesText r), line-some okWord false (leftOf p ∷ countOf r ∷ bytesOf p ∷ []))
+    let line = lineText okWord false (leftOf p ∷ countOf r ∷ bytesChecked p ∷ []) in
+    omega (arith, length-append (copyText k) (line ++ rangesText r), length-append line (rangesText r), line-some okWord false (leftOf p ∷ countOf r ∷ bytesChecked p ∷ []))
 answer-some k (P.Refused why) =
     omega (arith, length-append (copyText k) (lineText refusedWord false (refusalNumbers why)), line-some refusedWord false (refusalNumbers why))

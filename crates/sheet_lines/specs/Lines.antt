@@ -12,7 +12,7 @@ use Rattle.copy_kinds.specs.declared.Ranges.{Ranges}
 use Rattle.copy_kinds.specs.declared.Planned.{Planned}
 use Rattle.copy_kinds.specs.declared.Planned.the-variants as P
 use Rattle.copy_kinds.specs.Ranges.{countOf}
-use Rattle.plan_kinds.specs.Regions.{leftOf, bytesOf, numbersOf}
+use Rattle.plan_kinds.specs.Regions.{leftOf, bytesChecked, regionNumbers}
 
 -- the words `sheet`, `copy`, ` ok`, ` refused`
 abbrev pub sheetWord : List ℕ
@@ -56,7 +56,7 @@ copyText k = copyWord ++ spaced false (k ∷ [])
 
 -- `copy k ok`, regions, ranges, bytes checked; then the ranges
 unfoldable pub planText : ℕ → Plan → Ranges → List ℕ
-planText k p r = copyText k ++ (lineText okWord false (leftOf p ∷ countOf r ∷ bytesOf p ∷ []) ++ rangesText r)
+planText k p r = copyText k ++ (lineText okWord false (leftOf p ∷ countOf r ∷ bytesChecked p ∷ []) ++ rangesText r)
 
 -- `copy k refused` and its six numbers
 unfoldable pub refusalText : ℕ → TransferError → List ℕ
@@ -68,7 +68,7 @@ answerText k (P.Refused why) = refusalText k why
 
 -- `r` and the next region's numbers, `-` where one is absent
 unfoldable pub regionText : Plan → List ℕ
-regionText p = lineText regionWord true (numbersOf p)
+regionText p = lineText regionWord true (regionNumbers p)
 
 -- room for the lines of any answer, and for any other line
 abbrev pub pieceBytes : ℕ

@@ -18,7 +18,7 @@ use Rattle.slices.proofs.Puts.{put-none, put-then, put-length}
 use Rattle.sheet_lines.specs.Lines.{sheetText, answerText, regionText}
 use Rattle.sheet_lines.proofs.LineLaws.{sheet-few, region-few, answer-few, sheet-some, region-some, answer-some}
 use Rattle.sheet_listing.specs.declared.Lister.{Lister}
-use Rattle.sheet_listing.specs.Listing.{regionsText, noPlan, planOf, copyAnswer, answerAt, copiesText, stateWith, answerOf, pieceOf, nextOf, textLeft, Fills, Ends}
+use Rattle.sheet_listing.specs.Listing.{regionsText, noPlan, planAnswered, copyAnswer, answerAt, copiesText, stateWith, answerOf, pieceOf, nextOf, textLeft, Fills, Ends}
 use Rattle.sheet_listing.proofs.Pieces.{piece-ill, next-ill, piece-region, next-region, piece-copy, next-copy, piece-none, next-none}
 
 -- ---- by cases on a state
@@ -97,7 +97,7 @@ module _ (s ts bs : List ℕ) (st : Lister) where
   unfolding copyAnswer answerOf
   left-copy a o h =
       let answer = answerAt s ts bs (st .device) (st .at) in
-      rw (← piece-copy s ts bs st a o h, ← next-copy s ts bs st a o h, left-with (st .left - 1) (sectionLine s copies (st .at) .next) (planOf answer), left-well a, regions-none (leftOf (st .plan)) (st .plan) o)
+      rw (← piece-copy s ts bs st a o h, ← next-copy s ts bs st a o h, left-with (st .left - 1) (sectionLine s copies (st .at) .next) (planAnswered answer), left-well a, regions-none (leftOf (st .plan)) (st .plan) o)
       (sym (append-assoc (answerText (st .total - st .left) answer) _ _) ∙ copies-on (st .left) (st .at) h)
 
   left-none : st .ill ≡ false → leftOf (st .plan) ≤ 0 → st .left ≤ 0 → textLeft s ts bs st ≡ []

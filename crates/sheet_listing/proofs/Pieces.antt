@@ -22,7 +22,7 @@ use Rattle.sheet_text.specs.Text.{spaced, lineText}
 use Rattle.slices.proofs.Puts.{put-as, put-none}
 use Rattle.sheet_lines.specs.Lines.{okWord, refusedWord, sheetText, copyText, planText, refusalText, answerText, regionText}
 use Rattle.sheet_listing.specs.declared.Lister.{Lister}
-use Rattle.sheet_listing.specs.Listing.{regionsText, noPlan, planOf, copyAnswer, answerAt, copiesText, stateWith, answerOf, pieceOf, nextOf, textLeft}
+use Rattle.sheet_listing.specs.Listing.{regionsText, noPlan, planAnswered, copyAnswer, answerAt, copiesText, stateWith, answerOf, pieceOf, nextOf, textLeft}
 
 -- ---- one step, by the state
 
@@ -49,7 +49,7 @@ module _ (s ts bs : List ℕ) (st : Lister) where
       unfolding pieceOf
       piece-copy h = rw (well, le-ltb _ _ out, lt-ltb _ _ h)
 
-      pub next-copy : 0 < st .left → stateWith st (st .left - 1) (sectionLine s copies (st .at) .next) (planOf (answerOf s ts bs st)) ≡ nextOf s ts bs st
+      pub next-copy : 0 < st .left → stateWith st (st .left - 1) (sectionLine s copies (st .at) .next) (planAnswered (answerOf s ts bs st)) ≡ nextOf s ts bs st
       unfolding nextOf
       next-copy h = rw (well, le-ltb _ _ out, lt-ltb _ _ h)
 
@@ -77,7 +77,7 @@ module _ (s ts bs : List ℕ) (st : Lister) {l m : List ℕ} {at r : ℕ} where
   pub stepped-copy :
       (n k : ℕ) (row : Line) (answer : Planned) (p : Plan) (q : Lister) → st .ill ≡ false → n ≡ leftOf (st .plan) → n ≤ 0 → 0 < st .left
       → row ≡ sectionLine s copies (st .at) → answer ≡ linePlanned s ts bs (st .device) row → k ≡ st .total - st .left
-      → Put l m at (answerText k answer) r → p ≡ planOf answer → q ≡ stateWith st (st .left - 1) (row .next) p → Put l m at (pieceOf s ts bs st) r × (q ≡ nextOf s ts bs st)
+      → Put l m at (answerText k answer) r → p ≡ planAnswered answer → q ≡ stateWith st (st .left - 1) (row .next) p → Put l m at (pieceOf s ts bs st) r × (q ≡ nextOf s ts bs st)
   unfolding answerOf answerAt
   stepped-copy n k row answer p q a e z h er ea ek put ep f =
       let none : leftOf (st .plan) ≤ 0 = rw (← e) z in

@@ -44,13 +44,13 @@ noPlan =
       «bytes_checked» = 0;
     })
 
-unfoldable pub planOf : Planned → Plan
-planOf (P.Plan p r) = p
-planOf (P.Refused e) = noPlan
+unfoldable pub planAnswered : Planned → Plan
+planAnswered (P.Plan p r) = p
+planAnswered (P.Refused e) = noPlan
 
 -- a copy's answer, then its regions
 unfoldable pub copyAnswer : ℕ → Planned → List ℕ
-copyAnswer k a = answerText k a ++ regionsText (leftOf (planOf a)) (planOf a)
+copyAnswer k a = answerText k a ++ regionsText (leftOf (planAnswered a)) (planAnswered a)
 
 -- the answer to the copy line at a place
 unfoldable pub answerAt : List ℕ → List ℕ → List ℕ → Device → ℕ → Planned
@@ -104,7 +104,7 @@ module _ (s ts bs : List ℕ) (st : Lister) where
   nextOf =
       pick (st .ill) (stateWith st 0 0 noPlan) $
       pick (ltb 0 (leftOf (st .plan))) (stateWith st (st .left) (st .at) (behindOf (st .plan))) $
-      pick (ltb 0 (st .left)) (stateWith st (st .left - 1) (sectionLine s copies (st .at) .next) (planOf answerOf)) $
+      pick (ltb 0 (st .left)) (stateWith st (st .left - 1) (sectionLine s copies (st .at) .next) (planAnswered answerOf)) $
       st
 
   -- all that is left

@@ -57,8 +57,8 @@ abbrev pub listBytes : ℕ
 listBytes = 2 ^ 18
 
 -- `sheet `
-unfoldable pub sheetWord : List ℕ
-sheetWord = 115 ∷ 104 ∷ 101 ∷ 101 ∷ 116 ∷ 32 ∷ []
+unfoldable pub replayWord : List ℕ
+replayWord = 115 ∷ 104 ∷ 101 ∷ 101 ∷ 116 ∷ 32 ∷ []
 
 -- `end`, and a newline
 unfoldable pub endLine : List ℕ
@@ -78,7 +78,7 @@ after-number F.Ill rest = H.Ill
 -- the item at a place: `sheet N M`, N bytes, M bytes
 unfoldable pub headOf : List ℕ → ℕ → Head
 headOf s at =
-    stop-if (not (starts sheetWord (drop at s))) H.Ill $
+    stop-if (not (starts replayWord (drop at s))) H.Ill $
     after-number (fieldOf s (at + 6) word 32) λ n next.
     after-number (fieldOf s next word 10) λ m first.
     itemOf (length s) first n m

@@ -7,7 +7,7 @@ ghost use lib.ListN.{length, drop};
 ghost use Rattle.slices.specs.Put.{Put};
 ghost use Rattle.sheet_text.specs.Text.{decimal};
 ghost use Rattle.sheet_listing.specs.Listing.{restOf, listingOf};
-ghost use Rattle.sheet_replay.specs.Replay.{starts, same, SameLaw, differs, Compares, itemOf, headOf, listBytes, sheetWord, endLine, Replays, textBytes, differsText, countsText, illText};
+ghost use Rattle.sheet_replay.specs.Replay.{starts, same, SameLaw, differs, Compares, itemOf, headOf, listBytes, replayWord, endLine, Replays, textBytes, differsText, countsText, illText};
 use libc::STDOUT_FILENO;
 use sheet_fields::Field;
 use sheet_listing::Listing;
@@ -176,7 +176,7 @@ fn fit_item(length: usize, first: usize, n: usize, m: usize) -> Head
 
 fn is_head(s: &[u8], at: usize) -> bool
     requires { ⌜ at ≤ length (now s) ⌝ }
-    ensures { λ r. ⌜ r ≡ starts sheetWord (drop at (now (s .entry))) ⌝ }
+    ensures { λ r. ⌜ r ≡ starts replayWord (drop at (now (s .entry))) ⌝ }
 {
     starts_with(&s[at..], b"sheet ")
 }

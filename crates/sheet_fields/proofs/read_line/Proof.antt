@@ -4,7 +4,7 @@ use mathlib.Core.Path.{_≡_, refl, _∙_}
 use Prim.Native.Nat.{_-_}
 use borrow.Author.Needs.{needs}
 use lib.ListN.{length, drop, length-set}
-use Rattle.sheet_fields.specs.Line.{lineValues, lineWith, lineOf, fieldsOf}
+use Rattle.sheet_fields.specs.Line.{lineValues, lineWith, lineOf, fieldsIn}
 use Rattle.sheet_fields.proofs.LineLaws.{line-on, line-off, line-all}
 use Rattle.sheet_fields.proofs.read_line.Statement.{statement}
 use Rattle.sheet_fields.proofs.read_line.Tie as tie
@@ -12,7 +12,7 @@ use Rattle.sheet_fields.proofs.read_line.Tie as tie
 -- finishing from here gives the line
 abbrev Inv-loop : tie.InvT-loop
 Inv-loop s at codes values₀ gone₀ next₀ i₀ values gone next i =
-    (lineWith values i (fieldsOf s (drop i codes) next gone) ≡ lineOf s codes at) × (length values ≡ lineValues)
+    (lineWith values i (fieldsIn s (drop i codes) next gone) ≡ lineOf s codes at) × (length values ≡ lineValues)
 
 abbrev μ-loop : tie.MeasureT-loop
 μ-loop s at codes values₀ gone₀ next₀ i₀ values gone next i = length codes - i
