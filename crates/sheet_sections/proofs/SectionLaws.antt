@@ -17,7 +17,7 @@ use Rattle.sheet_sections.specs.declared.Section.the-variants as S
 use Rattle.sheet_sections.specs.declared.Found.{Found}
 use Rattle.sheet_sections.specs.declared.Found.the-variants as D
 use Rattle.sheet_sections.specs.declared.Sheet.{Sheet}
-use Rattle.sheet_sections.specs.Sheet.{newline, newlines, after-section, badAt, sectionOfRows, sheetOf, sheetFrom, sheetBytes, foundOf}
+use Rattle.sheet_sections.specs.Sheet.{newline, newlines, after-section, IllAt, sectionOfRows, sheetOf, sheetFrom, sheetBytes, foundOf}
 
 -- ---- newlines
 
@@ -49,9 +49,9 @@ module _ (r m : Section) (k : Part → Found) where
   unfolding after-section
   section-goes x p e q h = rw (sym e ∙ q) h
 
-  pub section-stops : (d at : ℕ) → r ≡ m → r ≡ S.Bad at → d ≡ badAt r → D.Bad d ≡ after-section m k
-  unfolding after-section badAt
-  section-stops d at e q h = rw (sym e ∙ q) (ap D.Bad (h ∙ ap badAt q))
+  pub section-stops : (d at : ℕ) → r ≡ m → r ≡ S.Bad at → IllAt r d → D.Bad d ≡ after-section m k
+  unfolding after-section
+  section-stops d at e q h = rw (sym e ∙ q) (ap D.Bad (h .same at q))
 
 pub ruleset sections = (flag-lines, section-goes, section-stops)
 

@@ -1,4 +1,5 @@
 -- The sheet: four sections, each after its count, and nothing behind them.
+use mathlib.Core.Path.{_≡_}
 use mathlib.Core.Bool.{not}
 use mathlib.Core.List.{List, [], _∷_}
 use Prim.Native.Nat.{ℕ, zero, suc, _+_}
@@ -84,7 +85,6 @@ sheetOf s =
     stop-if (ltb sheetBytes (length s)) (W.Ill 0) $
     sheetFrom s (foundOf s)
 
--- where the ill line of a section is
-unfoldable pub badAt : Section → ℕ
-badAt (S.Good p) = 0
-badAt (S.Bad at) = at
+-- where a section is ill, its ill line is at this place
+pub record IllAt (r : Section) (at : ℕ) : Type 0 where
+  pub same : (n : ℕ) → r ≡ S.Bad n → at ≡ n

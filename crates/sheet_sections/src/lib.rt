@@ -6,7 +6,7 @@ ghost use lib.ListN.{length};
 ghost use lib.Seq.{sets};
 ghost use Rattle.sheet_fields.specs.Line.{lineOf};
 ghost use Rattle.sheet_sections.specs.Rows.{kindOf, kindAt, copyCodes, sectionLine, placesOf, rowsOf};
-ghost use Rattle.sheet_sections.specs.Sheet.{leastOf, mostOf, sectionOfRows, sectionOfCount, sectionOf, badAt, foundOf, newline, newlines, sheetOf};
+ghost use Rattle.sheet_sections.specs.Sheet.{leastOf, mostOf, sectionOfRows, sectionOfCount, sectionOf, IllAt, foundOf, newline, newlines, sheetOf};
 ghost use Rattle.sheet_sections.specs.Laws.{SheetLaws};
 use sheet_fields::Field;
 use sheet_fields::Line;
@@ -237,7 +237,7 @@ fn read_section(s: &[u8], section: usize, at: usize) -> Section
 }
 
 fn bad_at(r: Section) -> usize
-    ensures { λ r′. ⌜ r′ ≡ badAt r ⌝ }
+    ensures { λ at. ⌜ IllAt r at ⌝ }
 {
     match r {
         Section::Good(_) => 0,
