@@ -26,7 +26,7 @@ use Rattle.sheet_listing.specs.Listing.{regionsText, noPlan, texturePlac
 -- ---- the start
 
 -- the places that were found, as many as there are
-found : (s : List ℕ) (section n first : ℕ) (l : List ℕ) → l ≡ sets (replicate 64 0) 0 (placesOf s section n first) → n ≤ 64 → take n l ≡ placesOf s section n first
+pub found : (s : List ℕ) (section n first : ℕ) (l : List ℕ) → l ≡ sets (replicate 64 0) 0 (placesOf s section n first) → n ≤ 64 → take n l ≡ placesOf s section n first
 found s section n first l is few =
     let places = placesOf s section n first in
     let count : length places ≡ n = places-length s section n first in
@@ -34,11 +34,11 @@ found s section n first l is few =
     rw (is, sets-eq places (replicate 64 0) 0 room) (take-at places (drop (0 + length places) (replicate 64 0)) n count)
 
 module _ (s : List ℕ) (p : Parts) (good : W.Good p ≡ sheetOf s) where
-  textures-few : p .textures .count ≤ 64
+  pub textures-few : p .textures .count ≤ 64
   unfolding mostOf
   textures-few = sheet-laws .parts s p (sym good) .textures .most
 
-  buffers-few : p .buffers .count ≤ 64
+  pub buffers-few : p .buffers .count ≤ 64
   unfolding mostOf
   buffers-few = sheet-laws .parts s p (sym good) .buffers .most
 

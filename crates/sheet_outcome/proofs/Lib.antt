@@ -1,0 +1,2 @@
+pub mod RefusedLaws
+pub mod GoodLaws

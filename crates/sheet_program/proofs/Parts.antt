@@ -1,0 +1,96 @@
+-- A listing that is written part by part.
+-- Assumes nothing.
+use mathlib.Core.Path.{_≡_, refl, sym, ap, subst, _∙_}
+use mathlib.Core.Bool.{Bool, true, false, not, false≢true}
+use mathlib.Core.List.{List, [], _++_, append-assoc}
+use Prim.Native.Nat.{ℕ, _+_, _≤_, _<_}
+use native.Mathlib.Omega.{arith}
+use native.Mathlib.Nat.{pos-of-ne-zero}
+use borrow.Author.Tests.{not-true, not-false}
+use lib.ListN.{length, take, drop, length-append, take-append-drop}
+use Rattle.slices.proofs.Puts.{put-take, put-length}
+use Rattle.sheet_listing.specs.declared.Listing.{Listing}
+use Rattle.sheet_listing.specs.Listing.{restOf, listingOf, Fills, Ends}
+use Rattle.sheet_io.specs.declared.Progress.{Progress}
+use Rattle.sheet_io.specs.Progress.{placeOf}
+use Rattle.sheet_io.proofs.OutputProofs.{output-laws}
+use Rattle.sheet_program.specs.declared.Part.{Part}
+use Rattle.sheet_program.specs.Program.{Sends, PartSent, Delivers, all, stop, on, Lists, Written, EveryListing}
+
+-- ---- one part
+
+pub part-sent :
+    (s : List ℕ) (st next : Listing) (l m : List ℕ) (count : ℕ) (whole : Bool) → length l ≡ 65536
+    → Fills l m count (restOf s st) (restOf s next) × ((count ≤ length m) × Ends (length l) count (restOf s st)) → Sends (take count m) whole
+    → PartSent s st (record { whole = whole; count = count; listing = next })
+part-sent s st next l m count whole room h sent =
+    let f = h .0 in
+    let n : count ≡ length (f .text) = f .put .next ∙ omega arith in
+    let fits : 0 + length (f .text) ≤ length l = omega (arith, n, h .1 .0, put-length (f .put)) in
+    let e : take count m ≡ f .text = put-take (f .put) fits in
+    record { text = f .text; left = f .left; count = n; sent = subst (λ (t : List ℕ). Sends t whole) e sent; none = λ z. h .1 .1 (omega arith) z }
+
+-- ---- one after another
+
+-- whatever parts follow, they follow others that began with the listing
+pub record Listing-on (s : List ℕ) (st : Listing) : Type 0 where
+  pub onto : (taken : List ℕ) (whole : Bool) → Delivers s st taken whole → Lists s whole
+
+module _ (s : List ℕ) (st : Listing) where
+  pub lists-start : restOf s st ≡ listingOf s → Listing-on s st
+  lists-start e = record { onto = λ taken whole d. record { first = st; start = e; taken = taken; delivers = d } }
+
+  module _ (r : Part) (sent : PartSent s st r) where
+    pub part-less : (r .count ≡ 0 → ⊥) → length (restOf s (r .listing)) < length (restOf s st)
+    part-less some =
+        let n : length (restOf s st) ≡ length (sent .text) + length (restOf s (r .listing)) =
+        ap (λ (l : List ℕ). length l) (sent .left) ∙ length-append (sent .text) (restOf s (r .listing)) in
+        omega (arith, n, sent .count, pos-of-ne-zero some)
+
+    module _ (i : Listing-on s st) where
+      pub lists-stop : not (r .whole) ≡ true → Lists s false
+      lists-stop e =
+          let w : r .whole ≡ false = not-true (r .whole) e in
+          i .onto _ false (stop (r .listing) (sent .left) (subst (Sends (sent .text)) w (sent .sent)))
+
+      pub lists-on : not (r .whole) ≡ false → Listing-on s (r .listing)
+      lists-on e =
+          let w : r .whole ≡ true = not-false (r .whole) e in
+          record { onto = λ taken whole d. i .onto _ whole (on (r .listing) (sent .left) (subst (Sends (sent .text)) w (sent .sent)) d) }
+
+      pub lists-end : r .count ≡ 0 → Lists s true
+      lists-end e = i .onto _ true (all (sent .none e))
+
+-- ---- what was taken
+
+not-failed : (b : Bool) → true ≡ not b → b ≡ false
+not-failed b e = not-true b (sym e)
+
+record Front (all taken : List ℕ) (whole : Bool) : Type 0 where
+  rest : List ℕ
+  front : all ≡ taken ++ rest
+  same : whole ≡ true → taken ≡ all
+
+delivered : (s : List ℕ) {st : Listing} {taken : List ℕ} {whole : Bool} → Delivers s st taken whole → Front (restOf s st) taken whole
+delivered s (all e) = record { rest = []; front = e; same = λ z. sym e }
+delivered s (stop {st = st} next {text} left o) =
+    let w = output-laws .output text (o .taken) (o .last) (o .writes) in
+    let k = placeOf (length text) (o .last) in
+    record {
+      rest = drop k text ++ restOf s next;
+      front = left ∙ ap (λ (l : List ℕ). l ++ restOf s next) (sym (take-append-drop k text)) ∙ append-assoc (take k text) (drop k text) (restOf s next) ∙ ap (λ (l : List ℕ). l ++ (drop k text ++ restOf s next)) (sym (w .front));
+      same = λ z. absurd (false≢true z);
+    }
+delivered s (on {st = st} next {text} {rest} {whole} left o d) =
+    let w = output-laws .output text (o .taken) (o .last) (o .writes) .whole (o .ended) (not-failed (o .last .failed) (o .told)) in
+    let f = delivered s d in
+    record {
+      rest = f .rest;
+      front = left ∙ ap (λ (l : List ℕ). text ++ l) (f .front) ∙ ap (λ (l : List ℕ). l ++ (rest ++ f .rest)) (sym w) ∙ sym (append-assoc (o .taken) rest (f .rest));
+      same = λ z. ap (λ (l : List ℕ). l ++ rest) w ∙ ap (λ (l : List ℕ). text ++ l) (f .same z) ∙ sym left;
+    }
+
+pub every-listing : EveryListing
+every-listing s whole l =
+    let f = delivered s (l .delivers) in
+    record { rest = f .rest; front = sym (l .start) ∙ f .front; all = λ z. f .same z ∙ l .start }
