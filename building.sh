@@ -111,6 +111,8 @@ has_kit() { # [WHAT FILE, which it is needed for]
 
 # ---- One build at a time
 
+locked=''
+
 # Waits until no other build runs in this repository. From here to unlock_builds a signal ends all that was started, then the script.
 lock_builds() {
     if ! { mkdir -p "$build_room" "$root/target" && touch "$build_room/lock"; } 2>/dev/null; then
@@ -122,15 +124,18 @@ lock_builds() {
     trap 'interrupted 143' TERM
     if ! command -v flock >/dev/null; then
         lock_by_folder
-        return
+    else
+        exec 9>>"$build_room/lock"
+        flock -n 9 || wait_for_lock
     fi
-    exec 9>>"$build_room/lock"
-    if ! flock -n 9; then
-        say "another build is running; waiting for it"
-        # In the background: a trap does not run before a command in the foreground has ended.
-        flock 9 &
-        wait $!
-    fi
+    locked=yes
+}
+
+wait_for_lock() {
+    say "another build is running; waiting for it"
+    # In the background: a trap does not run before a command in the foreground has ended.
+    flock 9 &
+    wait $!
 }
 
 # The lock where there is no flock: a folder with its owner's process number, which is taken over where that process is gone.
@@ -156,27 +161,29 @@ lock_by_folder() {
     echo $$ >"$build_room/owner/pid"
 }
 
+# Ends a build: removes what it made on its way, and frees the lock.
 unlock_builds() {
+    [ -n "$locked" ] || return 0
+    discard
+    rm -rf "$build_room/output" "$build_room/owner"
     exec 9>&-
-    if [ "$(cat "$build_room/owner/pid" 2>/dev/null)" = $$ ]; then rm -rf "$build_room/owner"; fi
+    locked=''
     trap - HUP INT TERM
 }
 
-# Ends what was started last with all that it started, removes what is half made, frees the lock, and ends the script.
+# Ends what was started last with all that it started, then the build and the script.
 interrupted() { # STATUS
     trap '' HUP INT TERM
     set +eu
     { kill -s TERM -- "-$!" || kill -s TERM "$!"; } 2>/dev/null
     exec 8>&-
     wait
-    rm -f "$build_room/output"
-    discard
     unlock_builds
     say "interrupted"
     exit "$1"
 }
 
-# Removes what a build makes on its way; a script that makes such files has its own.
+# Removes what a build makes on its way; a script that makes something has its own.
 discard() { :; }
 
 # ---- rt, and what it prints
