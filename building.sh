@@ -111,7 +111,7 @@ has_kit() { # [WHAT FILE, which it is needed for]
 
 # ---- One build at a time
 
-locked=''
+locked='' reader=''
 
 # Waits until no other build runs in this repository. From here to unlock_builds a signal ends all that was started, then the script.
 lock_builds() {
@@ -175,10 +175,9 @@ unlock_builds() {
 interrupted() { # STATUS
     trap '' HUP INT TERM
     set +eu
-    { kill -s TERM -- "-$!" || kill -s TERM "$!"; } 2>/dev/null
-    exec 8>&-
-    wait
+    { kill -s TERM -- "-$!" || kill -s TERM "$!"; wait $!; kill "$reader"; } 2>/dev/null
     unlock_builds
+    if [ -t 2 ]; then echo >&2; fi
     say "interrupted"
     exit "$1"
 }
@@ -200,6 +199,7 @@ open_output() { # COMMAND...
 close_output() {
     exec 8>&-
     wait "$reader"
+    reader=''
     rm -f "$build_room/output"
 }
 
@@ -208,11 +208,9 @@ close_output() {
 run_rt() { # WORD...
     session=setsid
     command -v setsid >/dev/null || session=''
+    ran="rt $*"
     (cd "$root" && exec $session rt "$@") </dev/null >&8 2>&1 8>&- &
-    wait $! && return
-    ended=$?
-    echo "building: rt $* ended with status $ended" >&8
-    return "$ended"
+    wait $!
 }
 
 # Reads what rt prints, keeps it in the log, and says which of the crates given is being proved: the first that is not proved yet.
@@ -242,17 +240,16 @@ show_step() {
     if [ -t 2 ]; then printf '\r%-70s' "${script:-${0##*/}}: $step" >&2; else say "$step"; fi
 }
 
-# Says from the log which crate failed and the first error that was printed of it.
+# Says from the log which crate failed in the last run of rt, and the first error that was printed of it.
 explain_failure() {
-    said=$(awk -v root="$root/" '
+    said=$(awk -v root="$root/" -v ran="$ran" '
         crate == "" && /^rt: [A-Za-z0-9_]+ NOT PROVED/ { crate = $2 " is not proved" }
         crate == "" && /^rt: [A-Za-z0-9_]+ proved, and its run FAILED/ { crate = $2 " is proved, but its run failed" }
-        crate == "" && /^building: rt staticlib / { crate = $4 " is not built" }
-        crate == "" && /^building: / { crate = substr($0, 11) }
         crate != "" { exit }
         /^rt: [A-Za-z0-9_]+ (proved|ran)/ { error = ""; next }
         error == "" && /(: error|^note: [^ ]+:[0-9]+:[0-9]+: |^fn [^ ]+: no|^rt: )/ { error = $0; sub(/^(note|rt): /, "", error) }
         END {
+            if (crate == "") crate = ran " failed"
             i = index(error, root)
             if (i) error = substr(error, 1, i - 1) substr(error, i + length(root))
             print crate (error == "" ? "" : ": " substr(error, 1, 300))

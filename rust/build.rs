@@ -1,9 +1,9 @@
-//! Finds the planner's static library, or has it made, and links it.
+//! Has the planner's static library made where it is not up to date, and links it.
 
 use std::env;
 use std::fs;
 use std::path::{Path, PathBuf};
-use std::process::{exit, Command};
+use std::process::{exit, Command, Stdio};
 
 const ARCHIVE: &str = "libcopy_planner.a";
 
@@ -12,6 +12,9 @@ const SCRIPT: &str = "library";
 
 /// Names the folder of the archive where it is kept elsewhere; a relative path is seen from the folder of this file.
 const FOLDER_VARIABLE: &str = "COPY_PLANNER_LIB_DIR";
+
+/// What the archive is made of and by, in the repository's root.
+const SOURCES: [&str; 5] = ["crates", "crates.txt", "KIT", "building.sh", SCRIPT];
 
 fn main() {
     println!("cargo:rerun-if-env-changed={FOLDER_VARIABLE}");
@@ -48,32 +51,31 @@ fn find_archive() -> Result<PathBuf, String> {
 fn archive_of_the_repository() -> Result<PathBuf, String> {
     let package = env::var_os("CARGO_MANIFEST_DIR").expect("cargo names the package's folder");
     let root = Path::new(&package).join("..");
-    let archive = root.join("target/staticlib").join(ARCHIVE);
-    if !archive.is_file() {
-        make_archive(&root)?;
+    for source in SOURCES {
+        println!("cargo:rerun-if-changed={}", root.join(source).display());
     }
-    Ok(archive)
+    make_archive(&root)?;
+    Ok(root.join("target/staticlib").join(ARCHIVE))
 }
 
-/// Takes minutes: every function of the planner is proved on the way.
+/// Has the archive made where it is missing or older than its sources, which takes minutes: every function of the planner is proved on the
+/// way. What the script says on standard error cargo shows with `-vv` at once, and else where this program fails.
 fn make_archive(root: &Path) -> Result<(), String> {
-    println!(
-        "cargo:warning=the planner's library is missing; ./{SCRIPT} makes it, in some minutes"
-    );
-    let made = Command::new(root.join(SCRIPT))
+    let ended = Command::new(root.join(SCRIPT))
         .current_dir(root)
-        .output()
+        .stdin(Stdio::null())
+        .stdout(Stdio::null())
+        .status()
         .map_err(|error| failure(&format!("does not run: {error}")))?;
-    if made.status.success() {
+    if ended.success() {
         return Ok(());
     }
-    let [out, err] = [&made.stdout, &made.stderr].map(|text| String::from_utf8_lossy(text));
-    Err(failure(&format!("failed ({}):\n{out}{err}", made.status)))
+    Err(failure(&format!("failed ({ended}); why is said above.")))
 }
 
 fn failure(how: &str) -> String {
     format!(
-        "The planner's library is missing, and the script `{SCRIPT}` in the repository's root, which makes it, {how}\n\
-         Where {ARCHIVE} lies elsewhere, name its folder in {FOLDER_VARIABLE}."
+        "The script `{SCRIPT}` in the repository's root, which makes the planner's library where it is not up to date, {how}\n\
+         To link an archive as it is, name the folder of {ARCHIVE} in {FOLDER_VARIABLE}."
     )
 }
