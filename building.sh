@@ -176,6 +176,9 @@ interrupted() { # STATUS
     trap '' HUP INT TERM
     set +eu
     { kill -s TERM -- "-$!" || kill -s TERM "$!"; wait $!; kill "$reader"; } 2>/dev/null
+    # A check has much memory to give back, and the lock is its too until it has.
+    tries=0
+    while kill -s 0 -- "-$!" 2>/dev/null && [ "$tries" -lt 20 ]; do sleep 0.1; tries=$((tries + 1)); done
     unlock_builds
     if [ -t 2 ]; then echo >&2; fi
     say "interrupted"
@@ -256,6 +259,17 @@ explain_failure() {
         }' "$build_log")
     say "$said"
     say "all that rt printed is in $build_log"
+}
+
+# Runs the gate, 'rt ci', which begins by removing target/, while nothing is built; what it prints is kept in a file.
+run_gate() { # FILE
+    lock_builds || return 1
+    open_output tee "$1"
+    ended=0
+    run_rt ci || ended=$?
+    close_output
+    unlock_builds
+    return "$ended"
 }
 
 # ---- The program
