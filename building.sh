@@ -74,13 +74,15 @@ state_of() { # WHAT FILE
     if [ -e "$2" ]; then echo "sources are newer than $1"; else echo "$1 is not built yet"; fi
 }
 
-# Says what is going to happen and how long it takes: on two processors some 10 seconds for each crate.
+# Says what is going to happen and how long it takes: five crates a minute on two processors.
 announce() { # WHAT FILE COUNT
+    minutes=$((($3 + 4) / 5))
     case $3 in 1) crates='1 crate is' ;; *) crates="$3 crates are" ;; esac
+    case $minutes in 1) minutes='about a minute' ;; *) minutes="some $minutes minutes" ;; esac
     if [ -e "$2" ]; then
         say "$(state_of "$1" "$2"): up to $crates proved again"
     else
-        say "$(state_of "$1" "$2"): $crates to be proved first, which takes some $((1 + $3 / 6)) minutes on two processors"
+        say "$(state_of "$1" "$2"): $crates to be proved first, which takes $minutes on two processors"
     fi
 }
 
