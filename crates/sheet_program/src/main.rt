@@ -2,8 +2,8 @@
 //
 //   sheet_program [DESCRIPTOR [LABEL [HEADING]]]
 //
-// DESCRIPTOR is a digit: the status is written there in the end, since a program in Rattle cannot exit with one. LABEL comes before the
-// error of a read, HEADING before the listing.
+// DESCRIPTOR is a digit from 3 on: the status is written there in the end, since a program in Rattle cannot exit with one. LABEL comes
+// before the error of a read, HEADING before the listing.
 ghost use mathlib.Core.Path.{_≡_};
 ghost use lib.ListN.{length};
 ghost use Rattle.io.specs.Counts.{Counts};
@@ -14,8 +14,10 @@ use sheet_io::Answer;
 use sheet_io::Progress;
 use sheet_listing::Listing;
 
-// The status where the sheet was not read, or its listing not written, as a whole.
-const NOT_WHOLE: u8 = 3;
+// The status where the listing was not written whole, and where the sheet was not read.
+const NOT_WRITTEN: u8 = 3;
+
+const NOT_READ: u8 = 4;
 
 // How many bytes of the sheet were read, and whether that failed.
 pub struct Received {
@@ -142,10 +144,10 @@ fn list_sheet(s: &[u8], heading: &[u8]) -> u8
     ensures { λ r. ⌜ StatusFor (now (s .entry)) r ⌝ }
 {
     if !send(heading) {
-        return NOT_WHOLE;
+        return NOT_WRITTEN;
     }
     if !list(s) {
-        return NOT_WHOLE;
+        return NOT_WRITTEN;
     }
     sheet_outcome::status_of(sheet_outcome::find_outcome(s))
 }
@@ -179,7 +181,7 @@ fn report(descriptor: i32, status: u8) {
     if descriptor < 0 {
         return;
     }
-    if status > NOT_WHOLE {
+    if status > NOT_READ {
         return;
     }
     io::write_all(descriptor, &[b'0' + status, b'\n']);
@@ -195,12 +197,12 @@ fn main() {
     let received = receive(&mut sheet);
     if received.failed {
         say_unread(&label[..labelled]);
-        report(descriptor, NOT_WHOLE);
+        report(descriptor, NOT_READ);
         return;
     }
     let n = received.count;
     let status = list_sheet(&sheet[..n], &heading[..headed]);
-    if status == NOT_WHOLE {
+    if status == NOT_WRITTEN {
         os::fail(b"plan: the listing is not written whole");
     }
     report(descriptor, status);
