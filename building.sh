@@ -128,7 +128,7 @@ lock_builds() {
         lock_by_folder
     else
         exec 9>>"$build_room/lock"
-        flock -n 9 || wait_for_lock
+        flock -n 9 || wait_for_lock || return 1
     fi
     locked=yes
 }
@@ -248,7 +248,10 @@ show_step() {
 # Says from the log which crate failed in the last run of rt, and the first error that was printed of it.
 explain_failure() {
     said=$(awk -v root="$root/" -v ran="$ran" '
-        crate == "" && /^rt: [A-Za-z0-9_]+ NOT PROVED/ { crate = $2 " is not proved" }
+        crate == "" && /^rt: [A-Za-z0-9_]+ NOT PROVED/ {
+            crate = $2 " is not proved"
+            if (sub(/^rt: [A-Za-z0-9_]+ NOT PROVED: /, "")) error = $0
+        }
         crate == "" && /^rt: [A-Za-z0-9_]+ proved, and its run FAILED/ { crate = $2 " is proved, but its run failed" }
         crate != "" { exit }
         /^rt: [A-Za-z0-9_]+ (proved|ran)/ { error = ""; next }
