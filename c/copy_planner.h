@@ -219,7 +219,7 @@ enum copy_planner_range_kind {
 
 /*
  * The four copies. Each returns 0 for an accepted copy, with its plan and its ranges, else the number of its refusal. Then the plan
- * has no regions left, and behind that word stand the refusal's details; there are no ranges. Every word of plan and ranges is
+ * has no regions left, and after that word stand the refusal's details; there are no ranges. Every word of plan and ranges is
  * written, and none is read before.
  *
  * A size, bytes per row or rows per image that is not given is not read. A copy whose width, height, depth or size is 0 is checked
@@ -288,7 +288,7 @@ uint32_t copy_planner_texture_to_texture(
     uint64_t ranges[COPY_PLANNER_TEXTURE_RANGES_WORDS]);
 
 /*
- * Each of these writes the numbers of the plan's next region, moves the plan behind it and returns 1. Where none is left it returns
+ * Each of these writes the numbers of the plan's next region, moves the plan past it and returns 1. Where none is left it returns
  * 0, the region is all zeros and the plan stays as it is.
  */
 
@@ -308,7 +308,7 @@ uint32_t copy_planner_next_texture_copy(
     uint64_t region[COPY_PLANNER_TEXTURE_REGION_NUMBERS]);
 
 /*
- * Each of these writes the numbers of all regions left, one region behind the other, moves the plan behind them and returns 0.
+ * Each of these writes the numbers of all regions left, one region after the other, moves the plan past them and returns 0.
  * Numbers past them are not changed. Where len is less than the regions left times the numbers of each, it returns 38 and changes
  * nothing.
  */
@@ -330,7 +330,7 @@ uint32_t copy_planner_write_texture_copies(
 
 /*
  * Puts the listing of a job sheet into out, or as much of its beginning as there is room for, and returns the length of the whole
- * listing. No zero byte is put behind it.
+ * listing. No zero byte is put after it.
  */
 size_t copy_planner_list(const uint8_t *sheet, size_t sheet_len, uint8_t *out, size_t out_len);
 

@@ -46,7 +46,7 @@ pub type Next<Plan, Region> = unsafe extern "C" fn(&mut Plan, &mut MaybeUninit<R
 /// Has a plan write all its regions left.
 pub type Write<Plan> = unsafe extern "C" fn(&mut Plan, *mut u64, usize) -> u32;
 
-// A copy returns 0, with its plan and its ranges, or the number of its refusal. Then the plan has no regions left, and behind that
+// A copy returns 0, with its plan and its ranges, or the number of its refusal. Then the plan has no regions left, and after that
 // word the refusal's details; there are no ranges. Every word of `plan` and `ranges` is written and none is read.
 extern "C" {
     pub(crate) fn copy_planner_buffer_to_buffer(
@@ -108,7 +108,7 @@ extern "C" {
     ) -> u32;
 }
 
-// 1 with the next region, and the plan moved behind it; 0 where none is left, and the plan unchanged. Every number of `region` is
+// 1 with the next region, and the plan moved past it; 0 where none is left, and the plan unchanged. Every number of `region` is
 // written.
 extern "C" {
     pub(crate) fn copy_planner_next_buffer_copy(
@@ -127,7 +127,7 @@ extern "C" {
     ) -> u32;
 }
 
-// 0 with all regions left, and the plan moved behind them; 38 where `len` numbers from `regions` on have no room for them, and
+// 0 with all regions left, and the plan moved past them; 38 where `len` numbers from `regions` on have no room for them, and
 // neither is changed.
 extern "C" {
     pub(crate) fn copy_planner_write_buffer_copies(

@@ -72,14 +72,14 @@ impl<R: Region> Plan<R> {
         }
     }
 
-    /// The next region, with the plan moved behind it; `None`, with the plan as it was, where none is left.
+    /// The next region, with the plan moved past it; `None`, with the plan as it was, where none is left.
     #[inline]
     pub fn next_region(&mut self) -> Option<R> {
         next_region(&mut self.0.words)
     }
 
-    /// Writes the numbers of the regions left from the start of `out` on, [`Region::NUMBERS`] each, moves the plan behind them
-    /// and returns how many numbers they are. What lies behind them in `out` keeps its value.
+    /// Writes the numbers of the regions left from the start of `out` on, [`Region::NUMBERS`] each, moves the plan past them
+    /// and returns how many numbers they are. What lies after them in `out` keeps its value.
     ///
     /// # Errors
     ///

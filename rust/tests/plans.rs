@@ -98,7 +98,7 @@ fn counts_of_regions() {
     check_counts(&between_buffers(0), 0);
 }
 
-/// The numbers written are the regions', and no others change; the plan is behind them.
+/// The numbers written are the regions', and no others change; the plan is past them.
 fn check_written<R: Numbered>(mut plan: Plan<R>, taken: usize) {
     for _ in 0..taken {
         plan.next_region();

@@ -1,7 +1,7 @@
 //! Every refusal that a copy can give, with its details.
 //!
-//! No copy gives these: 1 is a sheet's, 38 the region writer's, and 37 lies behind 13, which is checked first. 16 and 17 come from
-//! the range in the texture; their second check, with the rows in the buffer, lies behind it.
+//! No copy gives these: 1 is a sheet's, 38 the region writer's, and 37 comes after 13, which is checked first. 16 and 17 come from
+//! the range in the texture; their second check, with the rows in the buffer, comes after it.
 
 mod common;
 

@@ -51,7 +51,7 @@ fn a_long_listing() {
     assert!(listing.ends_with("\nr 522240 256 8 0 255 0 0 0 1 8 8 1\n"));
 }
 
-/// A slice of any length holds the listing's beginning, and keeps what lies behind it.
+/// A slice of any length holds the listing's beginning, and keeps what lies after it.
 #[test]
 fn listings_in_short_slices() {
     let whole = SCOPE_LISTING.as_bytes();

@@ -38,7 +38,7 @@ module _ (k : ℕ) (a : List ℕ) where
           let e : k ≡ length a + (k - length a) = omega arith in
           ap (λ (n : ℕ). take n (a ++ b)) e ∙ take-append-add a b (k - length a) ∙ ap (λ (x : List ℕ). x ++ take (k - length a) b) (sym (take-all k a (omega arith)))
 
--- nothing is put behind the end, whatever the place
+-- nothing is put after the end, whatever the place
 past : (l : List ℕ) (i j n : ℕ) (t : List ℕ) → n ≡ 0 → sets l i (take n t) ≡ sets l j (take n t)
 past l i j n t z = rw z refl
 

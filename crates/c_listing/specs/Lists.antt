@@ -9,11 +9,11 @@ use lib.Seq.{sets}
 abbrev pub counted : ℕ → ℕ
 counted n = min n (2 ^ 64 - 1)
 
--- as much of a text as there is room for behind a place
+-- as much of a text as there is room for after a place
 abbrev pub frontPut : List ℕ → ℕ → List ℕ → List ℕ
 frontPut l at text = sets l at (take (length l - at) text)
 
--- the next part of what was left, put behind a place
+-- the next part of what was left, put after a place
 pub record Lists (l m : List ℕ) (at : ℕ) (before after : List ℕ) (count next : ℕ) : Type 0 where
   pub text : List ℕ
   pub left : before ≡ text ++ after

@@ -6,7 +6,7 @@ ghost use Rattle.sheet_listing.specs.Listing.{restOf, listingOf};
 ghost use Rattle.c_listing.specs.Lists.{counted, frontPut, Lists};
 use sheet_listing::Listing;
 
-// How many bytes a part had, where the next one belongs, and the state behind it.
+// How many bytes a part had, where the next one belongs, and the state after it.
 pub struct Listed {
     pub count: usize,
     pub next: usize,
@@ -28,7 +28,7 @@ fn place_behind(at: usize, n: usize) -> usize
     at + n
 }
 
-// As much of a text as there is room for behind a place; answers the place behind the whole text.
+// As much of a text as there is room for after a place; answers the place after the whole text.
 fn put_front(out: &mut [u8], at: usize, text: &[u8]) -> usize
     ensures { λ r. ⌜ r ≡ counted (at + length (now (text .entry))) ⌝ }
     ensures { λ _. ⌜ now (out .exit) ≡ frontPut (now (out .entry)) at (now (text .entry)) ⌝ }
@@ -57,7 +57,7 @@ fn list_part(st: Listing, s: &[u8], out: &mut [u8], at: usize) -> Listed
     }
 }
 
-// As much of a sheet's listing as there is room for; answers the length of the whole listing. Nothing behind it changes.
+// As much of a sheet's listing as there is room for; answers the length of the whole listing. Nothing after it changes.
 #[no_mangle]
 pub extern "C" fn copy_planner_list(sheet: &[u8], out: &mut [u8]) -> usize
     ensures { λ r. ⌜ r ≡ counted (length (listingOf (now (sheet .entry)))) ⌝ }

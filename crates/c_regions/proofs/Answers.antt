@@ -25,7 +25,7 @@ module _ (w region zeros behind : List ℕ) (n : ℕ) (is : n ≡ leftIn w) wher
   unfolding nextNumber ifLeft
   one-left r b h e f = rw (ne-eqb (leftIn w) 0 (λ z. h (is ∙ z))) (refl, (e, f))
 
--- ---- the words behind it
+-- ---- the words after it
 
 pub layer-behind :
     (w : List ℕ) (n offset layer : ℕ) → n ≡ leftIn w → offset ≡ (wordAt (set w 0 (n - 1)) 3 + wordAt (set w 0 (n - 1)) 2) % 2 ^ 64

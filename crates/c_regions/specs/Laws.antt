@@ -1,4 +1,4 @@
--- What the words of a plan give is what the plan gives: as many regions left, the same next region, and the words of the plan behind it.
+-- What the words of a plan give is what the plan gives: as many regions left, the same next region, and the words of the plan after it.
 use Prim.Native.Nat.{ℕ, _^_, _<_}
 use mathlib.Core.Path.{_≡_}
 use mathlib.Core.List.{List}
@@ -14,7 +14,7 @@ regionFrom (Buffers p) = bufferRegion (bufferWords p)
 regionFrom (BufferTexture p) = bufferTextureRegion (bufferTextureWords p)
 regionFrom (Textures p) = textureRegion (textureWords p)
 
--- the words behind it
+-- the words after it
 unfoldable pub wordsBehind : Plan → List ℕ
 wordsBehind (Buffers p) = bufferBehind (bufferWords p)
 wordsBehind (BufferTexture p) = bufferTextureBehind (bufferTextureWords p)

@@ -17,7 +17,7 @@ wordsOf (Buffers p) = bufferWords p
 wordsOf (BufferTexture p) = bufferTextureWords p
 wordsOf (Textures p) = textureWords p
 
--- ---- the next region, and the words behind it, from a plan's words w; where no region is left: zeros, and w
+-- ---- the next region, and the words after it, from a plan's words w; where no region is left: zeros, and w
 
 -- word i
 abbrev pub wordAt : List ℕ → ℕ → ℕ
@@ -87,7 +87,7 @@ textureRegion w =
     pick (eqb (wordAt w 1) 1) (partRegion (depthOrStencil (wordAt w 2)) w) $
     pick (eqb (wordAt w 2) 0) (partRegion PLANE-0 w) (chromaHalved (partRegion PLANE-1 w))
 
--- whether the layer has another part behind this one
+-- whether the layer has another part after this one
 unfoldable pub partFollows : ℕ → ℕ → Bool
 partFollows parts part = not (eqb parts 0) && eqb part 0
 
@@ -104,6 +104,6 @@ textureBehind w = partOn (oneFewer w)
 unfoldable pub writtenNumber : Plan → ℕ → ℕ
 writtenNumber p room = pick (fits p room) 0 38
 
--- the words of the plan behind them; the words as they are where the slice is too short
+-- the words of the plan after them; the words as they are where the slice is too short
 unfoldable pub writtenWords : List ℕ → Plan → ℕ → List ℕ
 writtenWords w p room = pick (fits p room) (wordsOf (behindAll (leftOf p) p)) w

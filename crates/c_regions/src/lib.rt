@@ -155,7 +155,7 @@ fn part_on(plan: &mut [u64; 18])
     plan[10] = layer_on(plan[10]);
 }
 
-// 1, the next region's numbers, and the plan behind it; or 0, zeros, and the plan as it is, where no region is left.
+// 1, the next region's numbers, and the plan after it; or 0, zeros, and the plan as it is, where no region is left.
 #[no_mangle]
 pub extern "C" fn copy_planner_next_buffer_copy(plan: &mut [u64; 6], region: &mut [u64; 3]) -> u32
     ensures { λ r. ⌜ r ≡ nextNumber (now (plan .entry)) ⌝ }
@@ -218,7 +218,7 @@ pub fn step_laws()
     ensures { λ _. ⌜ EveryStep ⌝ }
 {}
 
-// 0, the regions left from the slice's start, and the plan behind them; or 38, and nothing changed, where the slice is shorter than they are.
+// 0, the regions left from the slice's start, and the plan after them; or 38, and nothing changed, where the slice is shorter than they are.
 #[no_mangle]
 pub extern "C" fn copy_planner_write_buffer_copies(plan: &mut [u64; 6], regions: &mut [u64]) -> u32
     ensures { λ r. ⌜ r ≡ writtenNumber (Plan.Buffers (buffersFrom (now (plan .entry)))) (length (now (regions .entry))) ⌝ }

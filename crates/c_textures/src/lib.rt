@@ -1,5 +1,5 @@
 // Copies between textures, for callers in C and Rust. A crate of its own, so that its archive holds one copy function, into
-// which the compiler puts every rule.
+// which the compiler inlines the rules, but for the refusal of a range.
 ghost use mathlib.Core.Path.{_≡_};
 ghost use Rattle.conditions.specs.Conditions.{pick};
 ghost use Rattle.c_words.specs.Words.{texturesNumber, texturesPlan, texturesRanges};

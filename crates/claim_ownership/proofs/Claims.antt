@@ -96,7 +96,7 @@ module _ (c : Copy) (s : Sound c) (pw : 0 < c .size .width .0) (ph : 0 < c .size
       go false e lo hi = rw (touched-is (padded w e)) (runs.covered (textureRange c) s₀ e₀ byte byte lo hi refl)
   written w byte un (inr (near, o, v)) = let i = owners.inside c s pw ph pd near (o .0) (o .1) in go (contiguous c) refl (i .0) (i .1)
     where
-      -- before the run, behind it, or in it and so owned
+      -- before the run, after it, or in it and so owned
       by : contiguous c ≡ true → s₀ ≤ near → near < e₀ → (t u : Bool) → ltb byte s₀ ≡ t → ltb byte e₀ ≡ u → Reported NeedsInitializedMemory byte (listed (Given (textureRange c) (filled s₀ e₀)))
       by e lo hi true u f g = runs.head (textureRange c) s₀ e₀ byte near (ltb-true _ _ f) lo v
       by e lo hi false false f g = runs.tail (textureRange c) s₀ e₀ byte near (ltb-false _ _ g) hi v

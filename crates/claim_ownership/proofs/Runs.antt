@@ -45,7 +45,7 @@ other-kind e = let z : _≡_ {A = ℕ} 0 1 = cc in absurd (omega arith)
 
 -- of a run from s to e, beside any range of the texture
 module _ (texture : TextureInitRange) (s e byte : ℕ) where
-  -- a byte before the run, and one behind it, with a byte of the run in its word
+  -- a byte before the run, and one after it, with a byte of the run in its word
   pub head : (near : ℕ) → byte < s → s ≤ near → near / 4 ≡ byte / 4 → Reported NeedsInitializedMemory byte (listed (N.Given texture (filled s e)))
   unfolding filled
   head near lo in-run w = first (s % 4) 0 (up s - 4) (up s) _ (λ q. omega arith) (omega arith) (omega arith)

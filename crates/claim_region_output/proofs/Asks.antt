@@ -115,7 +115,7 @@ each {p} (gave {r = r} {rs = rs} e g) =
 pub sized : {p : Plan} {rs : List Region} → Gives p rs → leftOf p * fieldsOf p ≡ length (slots rs)
 sized {p} g = ap (λ (n : ℕ). n * fieldsOf p) (counted g) ∙ each g
 
--- behind all of them none is left
+-- after all of them none is left
 pub all-behind : {p : Plan} {rs : List Region} → Gives p rs → Gives (behindAll (length rs) p) []
 unfolding behindAll
 all-behind (ended e f) = ended e f

@@ -96,7 +96,7 @@ module _ (p : TexturePlan) (f : FitTextures p) where
   small-texture DepthStencil = either-part (eqb (p .part) 0) _ _ (small-part DEPTH 1 (omega arith)) (small-part STENCIL 1 (omega arith))
   small-texture Planes = either-part (eqb (p .part) 0) _ _ (small-part PLANE-0 1 (omega arith)) (small-part PLANE-1 2 (omega arith))
 
-  -- ---- the plan behind it
+  -- ---- the plan after it
 
   other-part : FitTextures (X.otherPart p)
   unfolding X.otherPart

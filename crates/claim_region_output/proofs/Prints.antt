@@ -88,7 +88,7 @@ unfolding kindNumber kind
 kind-same ImplicitlyInitialized = refl
 kind-same NeedsInitializedMemory = refl
 
--- lines one behind the other
+-- lines one after the other
 abbrev joined : List (List ℕ) → List ℕ
 joined ls = flatMap (λ (l : List ℕ). l) ls
 

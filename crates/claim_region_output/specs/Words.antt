@@ -14,8 +14,8 @@ use Rattle.claim_region_output.specs.Numbers.{Number, given, optional, b
 
 -- ---- the next region
 
--- what one of `copy_planner_next_*` answers for words w: 1, a region and the words behind it; or 0, zeros and w. Asking with w, then with
--- the words behind in turn, until the answer is 0, gives the rows, in order
+-- what one of `copy_planner_next_*` answers for words w: 1, a region and the words after it; or 0, zeros and w. Asking with w, then with
+-- the words after in turn, until the answer is 0, gives the rows, in order
 module _ (fields : ℕ) (next behind : List ℕ → List ℕ) where
   pub data WordsGive : List ℕ → List (List ℕ) → Type 0 where
     stop : {w : List ℕ} → nextNumber w ≡ 0 → ifLeft w (next w) (replicate fields 0) ≡ replicate fields 0 → ifLeft w (behind w) w ≡ w → WordsGive w []

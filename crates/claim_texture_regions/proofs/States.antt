@@ -1,4 +1,4 @@
--- The plan behind n regions: its part and its layers are n's, and its region is the copy's n-th.
+-- The plan after n regions: its part and its layers are n's, and its region is the copy's n-th.
 -- Assumes nothing.
 use mathlib.Core.Path.{_≡_, refl, sym, ap, _∙_}
 use mathlib.Core.List.{List, [], _∷_}
@@ -68,7 +68,7 @@ module _ (c : Copy) where
   abbrev place : Part
   place = part 0 0 1
 
-  -- the plan behind k regions
+  -- the plan after k regions
   pub record Behind (v : CopyParts) (k : ℕ) (p : TexturePlan) : Type 0 where
     pub parts : p .parts ≡ v
     pub size : p .size ≡ record { width = c .size .width; height = c .size .height; depth = sizeOf c 1 .depth }

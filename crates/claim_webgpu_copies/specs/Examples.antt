@@ -1,4 +1,4 @@
--- Copies at which the planner and the standard part, for each exception; docs/DIFFERENCES.md has the smallest as sheets.
+-- Copies at which the planner and the standard differ, for each exception; docs/DIFFERENCES.md has them as sheets.
 use mathlib.Core.Bool.{Bool, true, false}
 use Prim.Native.Nat.{ℕ}
 use Rattle.measures.specs.declared.Extent3d.{Extent3d}
@@ -106,7 +106,7 @@ StandardOntoZ1 other t size reading = StandardTextures 0 other (side t 0) (side 
 abbrev pub OnlyPlanned : Texture → Extent3d → Type 0
 OnlyPlanned t size = OntoZ1 0 t size × ((reading : W.Reading) → StandardOntoZ1 0 t size reading → ⊥)
 
--- ---- that they part
+-- ---- that they differ
 
 pub record Examples : Type 0 where
   -- the planner refuses: 3, 34; 2, 3, 34, 12; 2

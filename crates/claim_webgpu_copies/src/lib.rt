@@ -20,14 +20,14 @@ pub fn buffer_texture_agrees()
     ensures layers { λ _. ⌜ BufferTextureWithLayers ⌝ }
 {}
 
-// The same of a copy between textures, but for one texture onto itself, where the two part at another z.
+// The same of a copy between textures, but for one texture onto itself, where the two differ at another z.
 pub fn texture_to_texture_agrees()
     ensures one_layer { λ _. ⌜ TextureToTexture ⌝ }
     ensures layers { λ _. ⌜ TextureToTextureWithLayers ⌝ }
     ensures onto_itself { λ _. ⌜ OntoItselfParts ⌝ }
 {}
 
-// At the smallest copy of each exception the planner and the standard part.
+// At a small copy of each exception the planner and the standard differ.
 pub fn examples_part()
     ensures { λ _. ⌜ Examples ⌝ }
 {}

@@ -114,7 +114,7 @@ layers-into-slices c rs k es ed from to =
     strayed : (n : ℕ) (a : Aspect) (i j : ℕ) → shifted (c .dst) n 0 a i j ≡ onLayer n (imageBlock (c .dst) 0 a i j)
     strayed n a i j = same-block (layer-of _ _ n ed) (slice-of _ _ ed) refl refl
 
--- ---- they part
+-- ---- they differ
 
 pub images-missed : ImagesMissed
 images-missed c rs k (inl (es, ed)) from to n pos im g =

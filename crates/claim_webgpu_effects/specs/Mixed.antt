@@ -40,7 +40,7 @@ LayersIntoSlices =
     (c : Copy) (rs : List TextureCopy) → Accepted c rs → dimension (c .src) ≡ D2 → dimension (c .dst) ≡ D3
     → (from to : TexelBlock) → LayersToSlices c rs from to
 
--- ---- so they part, either way, wherever there is a second image
+-- ---- so they differ, either way, wherever there is a second image
 
 abbrev pub Mixed : Copy → Type 0
 Mixed c = ((dimension (c .src) ≡ D2) × (dimension (c .dst) ≡ D3)) ⊎ ((dimension (c .src) ≡ D3) × (dimension (c .dst) ≡ D2))

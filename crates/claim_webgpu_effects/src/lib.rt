@@ -13,7 +13,8 @@ pub fn texture_effects()
     ensures { λ _. ⌜ TextureEffects ⌝ }
 {}
 
-// Between 2D and 3D textures, of any number of images: the Rust's regions part from the standard. No other copy between textures is left.
+// Between 2D and 3D textures: what the regions do, of any number of images; with more than one they differ from the standard. No other
+// copy between textures is left.
 pub fn mixed_effects()
     ensures slices { λ _. ⌜ SlicesIntoLayers ⌝ }
     ensures layers { λ _. ⌜ LayersIntoSlices ⌝ }

@@ -71,7 +71,7 @@ picked : (t : Bool) (a b : ℕ) → pick t a b ≡ cond t a b
 picked true a b = refl
 picked false a b = refl
 
--- strides behind the first matter only where there are more than one
+-- strides after the first matter only where there are more than one
 strides : (n a b : ℕ) → (1 < n → a ≡ b) → (n - 1) * a ≡ b * (n - 1)
 strides n a b h = go (ltb 1 n) refl
   where

@@ -2,7 +2,7 @@
 // the check asks for its proof.
 ghost use Rattle.claim_webgpu_rules.specs.Agreement.{FormatTable, LogicalExtents, PhysicalExtents, LevelCounts, Ranges, RangesWithLayers, LinearRules, BufferCopies, SameTexture, SameTextureParts, CompatibleFormats, AllAspects};
 
-// Blocks, bytes, aspects and chosen aspects of every format are the standard's.
+// Blocks, bytes, aspects and chosen aspects of every format of the standard (0 to 20) are the standard's.
 pub fn tables_agree()
     ensures { λ _. ⌜ FormatTable ⌝ }
 {}

@@ -66,7 +66,7 @@ withinCopy same split src dst size srcExtent dstExtent layers =
     after (checked (withinOne same src dst layers)) P.Refused $
     selectedCopy split src dst size srcExtent dstExtent layers
 
--- the same behind the ranges
+-- the same after the ranges
 unfoldable pub placedCopy : Bool → Bool → TextureSide → TextureSide → Extent3d → TexturePlanned
 placedCopy same split src dst size =
     withinCopy same split src dst size (copyExtent (src .texture) size) (copyExtent (dst .texture) size) (arrayLayerCount (src .texture) size)

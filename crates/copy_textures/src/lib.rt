@@ -364,7 +364,7 @@ fn range_refusal(
     rule_answers::range_why(rule_copy_range::validate_texture_copy_range(view, texture, of, size))
 }
 
-// Each side is tested, and its refusal made only where the test fails: the test is in line, and of the refusal, which is not, an accepted
+// Each side is tested, and its refusal made only where the test fails: the test is inlined, and of the refusal, which is not, an accepted
 // copy stores nothing.
 fn range_copy(
     same: bool,

@@ -154,7 +154,7 @@ impl BufferTexturePlan {
         }
     }
 
-    // The next region and the plan behind it; past the last none, and the plan as it is.
+    // The next region and the plan after it; past the last none, and the plan as it is.
     pub fn next(self) -> AskedBufferTexture
         ensures { λ r. ⌜ r ≡ nextOf self ⌝ }
     {

@@ -108,7 +108,7 @@ impl BufferPlan {
         }
     }
 
-    // The next region and the plan behind it; past the last none, and the plan as it is.
+    // The next region and the plan after it; past the last none, and the plan as it is.
     pub fn next(self) -> AskedBuffer
         ensures { λ r. ⌜ r ≡ nextOf self ⌝ }
     {

@@ -35,7 +35,7 @@ bytesChecked (Buffers p) = p .«bytes_checked»
 bytesChecked (BufferTexture p) = p .«bytes_checked»
 bytesChecked (Textures p) = 0
 
--- ---- the next region's numbers, of which there are none past the last, and the plan behind it
+-- ---- the next region's numbers, of which there are none past the last, and the plan after it
 
 unfoldable pub bufferNumbers : NextBufferCopy → List ℕ
 bufferNumbers (B.Region r) = bufferCopyNumbers r

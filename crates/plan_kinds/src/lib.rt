@@ -17,7 +17,7 @@ pub enum Plan {
     Textures(TexturePlan),
 }
 
-// The next region as a row, of no numbers where none is left, and the plan behind it.
+// The next region as a row, of no numbers where none is left, and the plan after it.
 pub struct AskedRow {
     pub row: Row,
     pub plan: Plan,
@@ -121,7 +121,7 @@ impl Plan {
         }
     }
 
-    // The next region as a row, and the plan behind it; past the last a row of no numbers, and the plan as it is.
+    // The next region as a row, and the plan after it; past the last a row of no numbers, and the plan as it is.
     pub fn next(self) -> AskedRow
         ensures { λ r. ⌜ r ≡ nextOf self ⌝ }
     {

@@ -60,7 +60,7 @@ unfoldable pub refusalNumbers : TransferError → List ℕ
 refusalNumbers why =
     numbersOf why .number ∷ numbersOf why .side ∷ numbersOf why .dimension ∷ numbersOf why .start ∷ numbersOf why .end ∷ numbersOf why .limit ∷ []
 
--- ---- a row that holds numbers, and zeros behind them
+-- ---- a row that holds numbers, and zeros after them
 
 unfoldable pub rowOf : List ℕ → Row
 rowOf ns = record { count = length ns; values = sets (replicate 15 0) 0 ns }

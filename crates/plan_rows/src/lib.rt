@@ -12,7 +12,7 @@ use rule_init_ranges::TextureInitRange;
 // What stands for an absent value.
 const ABSENT: u64 = 18446744073709551615;
 
-// So many numbers, and zeros behind them.
+// So many numbers, and zeros after them.
 pub struct Row {
     pub count: usize,
     pub values: [u64; 15],

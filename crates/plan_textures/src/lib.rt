@@ -322,7 +322,7 @@ impl TexturePlan {
         }
     }
 
-    // The next region and the plan behind it; past the last none, and the plan as it is.
+    // The next region and the plan after it; past the last none, and the plan as it is.
     pub fn next(self) -> AskedTexture
         ensures { λ r. ⌜ r ≡ nextOf self ⌝ }
     {

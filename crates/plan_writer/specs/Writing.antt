@@ -21,7 +21,7 @@ numbersFrom (suc n) p = regionNumbers p ++ numbersFrom n (behindOf p)
 unfoldable pub numbersLeft : Plan → List ℕ
 numbersLeft p = numbersFrom (leftOf p) p
 
--- the plan behind n regions
+-- the plan after n regions
 unfoldable pub behindAll : ℕ → Plan → Plan
 behindAll zero p = p
 behindAll (suc n) p = behindAll n (behindOf p)

@@ -15,7 +15,7 @@ use plan_textures::TextureRanges;
 use refusals::Checked;
 use refusals::TransferError;
 
-// Whether the regions were written, and the plan behind them; 38 and the plan as it is where the slice is too short.
+// Whether the regions were written, and the plan after them; 38 and the plan as it is where the slice is too short.
 pub struct Written {
     pub answer: Checked,
     pub plan: Plan,
@@ -63,7 +63,7 @@ fn store_row(out: &mut [u64], at: usize, row: Row) -> usize
     store(out, at, &values[..count])
 }
 
-// The regions left of a plan of each kind, and the plan behind them. Each loop tests `left` itself: the compiler then knows that there is a
+// The regions left of a plan of each kind, and the plan after them. Each loop tests `left` itself: the compiler then knows that there is a
 // next region, and its numbers stay in registers.
 pub fn write_buffers(plan: BufferPlan, out: &mut [u64]) -> BufferPlan
     requires { ⌜ plan .left * 3 ≤ length (now out) ⌝ }

@@ -1,4 +1,4 @@
--- The limits of the records, each named here alone.
+-- The limits of the records, in the planner's definitions each named here alone.
 use Prim.Native.Nat.{ℕ}
 
 abbrev pub maxBufferSize : ℕ

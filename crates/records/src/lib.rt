@@ -299,8 +299,8 @@ pub fn check_texture(t: Texture, side: CopySide) -> Checked
     Checked::GoOn
 }
 
-// 2 where the source's record is out of its bounds, then where the destination's is. Both are written out, since the compiler puts the two
-// halves of the test in line where they are called twice, and would leave the whole of it a call, for which a record has to be stored.
+// 2 where the source's record is out of its bounds, then where the destination's is. Both are written out, since the compiler inlines
+// the two halves of the test where they are called twice, and would leave the whole of it a call, for which a record has to be stored.
 pub fn check_textures(src: Texture, dst: Texture) -> Checked
     ensures { λ r. ⌜ r ≡ checked (bothTextureChecks src dst) ⌝ }
 {

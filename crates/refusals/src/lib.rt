@@ -20,7 +20,7 @@ pub enum DownlevelFlags {
     UnrestrictedIndexBuffer,
 }
 
-// The crate's variants and details, but for what belongs to clears and external images, with the planner's own:
+// wgpu-core's variants and details, but for what belongs to clears, external images and mapped buffers, with the planner's own:
 // InvalidSheetIndex, InvalidTextureRecord, InvalidBufferRecord, RegionSliceTooShort.
 // A missing usage has its side where the Rust names the resource. `end_offset` is wide enough for a sum of two of the
 // others.

@@ -325,7 +325,7 @@ fn sides_fit(exact: bool, o: Origin3d, size: Extent3d, extent: Extent3d) -> bool
     )
 }
 
-// In one test, so that the whole is small enough for the compiler to put in line on both sides of a copy.
+// In one test, so that the whole is small enough for the compiler to inline on both sides of a copy.
 fn blocks_fit(o: Origin3d, size: Extent3d, block: BlockDimensions) -> bool
     requires { ⌜ (0 < block .width .0) × (0 < block .height .0) ⌝ }
     ensures { λ r. ⌜ r ≡ blocksFit o size block ⌝ }

@@ -61,7 +61,7 @@ plain-many [] z o = absurd (z refl)
 plain-many (b ∷ []) z o = absurd (o refl)
 plain-many (b ∷ c ∷ t) z o = refl
 
--- ---- digits: what the digits t give behind those of v
+-- ---- digits: what the digits t give after those of v
 
 abbrev pub scanned : ℕ → ℕ → List ℕ → Number
 scanned high v t = pick (allDigits t && leb (valueFrom v t) high) (N.Is (valueFrom v t)) N.Ill

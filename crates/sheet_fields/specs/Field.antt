@@ -35,7 +35,7 @@ plain [] = false
 plain (b ∷ []) = true
 plain (b ∷ c ∷ t) = not (eqb b 48)
 
--- the number of v's digits with these behind them
+-- the number of v's digits with these after them
 unfoldable pub valueFrom : ℕ → List ℕ → ℕ
 valueFrom v [] = v
 valueFrom v (b ∷ t) = valueFrom (v * 10 + (b - 48)) t
@@ -71,6 +71,6 @@ fieldUpTo s at code sep e =
 unfoldable pub fieldOf : List ℕ → ℕ → ℕ → ℕ → Field
 fieldOf s at code sep = fieldUpTo s at code sep (at + length (token (drop at s)))
 
--- one byte more behind the digits of v
+-- one byte more after the digits of v
 unfoldable pub pushOf : ℕ → ℕ → ℕ → Number
 pushOf v b high = pick (isDigit b && leb (v * 10 + (b - 48)) high) (N.Is (v * 10 + (b - 48))) N.Ill

@@ -15,7 +15,7 @@ use Rattle.sheet_fields.specs.Field.{fieldOf}
 abbrev pub lineValues : ℕ
 lineValues = 16
 
--- fields that were read: their values, whether the last is absent, and the place behind them
+-- fields that were read: their values, whether the last is absent, and the place after them
 pub data Fields : Type 0 where
   ill : Fields
   got : List ℕ → Bool → ℕ → Fields
@@ -44,6 +44,6 @@ unfoldable pub lineWith : List ℕ → ℕ → Fields → Line
 lineWith vs i ill = record { good = false; next = 0; gone = false; values = replicate lineValues 0 }
 lineWith vs i (got ws gone next) = record { good = true; next = next; gone = gone; values = sets vs i ws }
 
--- behind a line's own values are zeros
+-- after a line's own values are zeros
 unfoldable pub lineOf : List ℕ → List ℕ → ℕ → Line
 lineOf s codes at = lineWith (replicate lineValues 0) 0 (fieldsIn s codes at false)

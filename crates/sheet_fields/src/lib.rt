@@ -40,13 +40,13 @@ pub enum Number {
     Ill,
 }
 
-// A value, whether it is absent, and the place behind the field.
+// A value, whether it is absent, and the place after the field.
 pub enum Field {
     At(u64, bool, usize),
     Ill,
 }
 
-// A line's values, whether the last is absent, and the place behind the line.
+// A line's values, whether the last is absent, and the place after the line.
 pub struct Line {
     pub good: bool,
     pub next: usize,

@@ -1,4 +1,4 @@
--- Lengths of lines, and lines that are put one behind the other.
+-- Lengths of lines, and lines that are put one after the other.
 -- Assumes nothing.
 use mathlib.Core.Path.{_≡_, refl, ap, _∙_}
 use mathlib.Core.Bool.{Bool, true, false}
@@ -106,10 +106,10 @@ pub copy-few : (k : ℕ) → length (copyText k) ≤ 25
 unfolding copyText
 copy-few k = rw (length-append (99 ∷ 111 ∷ 112 ∷ 121 ∷ []) (spaced false (k ∷ []))) (omega (arith, spaced-few false (k ∷ [])))
 
--- ---- lines one behind the other
+-- ---- lines one after the other
 
 module _ {l m : List ℕ} {at a : ℕ} {t : List ℕ} (p : Put l m at t a) where
-  -- room that is left behind a text
+  -- room that is left after a text
   pub room-behind : (n have need : ℕ) → length t ≤ n → at + have ≤ length l → n + need ≤ have → a + need ≤ length m
   room-behind n have need few h k = omega (arith, p .next, put-length p)
 

@@ -17,7 +17,7 @@ use refusals::TransferError;
 use rule_init_ranges::BufferInitRange;
 use rule_init_ranges::TextureInitRange;
 
-// The place behind a region's line, and the plan behind the region.
+// The place after a region's line, and the plan after the region.
 pub struct PutRegion {
     pub next: usize,
     pub plan: Plan,
@@ -127,7 +127,7 @@ pub fn put_answer(out: &mut [u8], at: usize, k: u64, answer: Planned) -> usize
     }
 }
 
-// The line of the plan's next region, and the plan behind it.
+// The line of the plan's next region, and the plan after it.
 pub fn put_region(out: &mut [u8], at: usize, plan: Plan) -> PutRegion
     requires { ⌜ at + pieceBytes ≤ length (now out) ⌝ }
     ensures { λ r. ⌜ Put (now (out .entry)) (now (out .exit)) at (regionText plan) (r .next) ⌝ }

@@ -1,4 +1,4 @@
--- A piece, with what is left behind it, is what was left.
+-- A piece, with what is left after it, is what was left.
 -- Assumes nothing.
 use mathlib.Core.Path.{_≡_, refl, sym, ap, _∙_}
 use mathlib.Core.Bool.{Bool, true, false}

@@ -1,4 +1,4 @@
--- What a step puts, and the state behind it, by the state before.
+-- What a step puts, and the state after it, by the state before.
 -- Assumes nothing.
 use mathlib.Core.Path.{_≡_, refl, sym, ap, _∙_}
 use mathlib.Core.Bool.{Bool, true, false}

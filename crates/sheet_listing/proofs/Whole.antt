@@ -1,4 +1,4 @@
--- The whole state of a listing: what it has left at the start, and behind a part.
+-- The whole state of a listing: what it has left at the start, and after a part.
 -- Assumes nothing.
 use mathlib.Core.Path.{_≡_, refl, sym, ap, _∙_}
 use mathlib.Core.Bool.{Bool, true, false}

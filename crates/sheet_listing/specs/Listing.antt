@@ -99,7 +99,7 @@ module _ (s ts bs : List ℕ) (st : Lister) where
       pick (ltb 0 (st .left)) (answerText (st .total - st .left) answerOf) $
       []
 
-  -- the state behind it
+  -- the state after it
   unfoldable pub nextOf : Lister
   nextOf =
       pick (st .ill) (stateWith st 0 0 noPlan) $
@@ -117,7 +117,7 @@ module _ (s ts bs : List ℕ) (st : Lister) where
 unfoldable pub restOf : List ℕ → Listing → List ℕ
 restOf s st = textLeft s (take (st .«texture_count») (st .textures)) (take (st .«buffer_count») (st .buffers)) (st .lister)
 
--- some of what was left is put at a slice's start, and nothing behind it changes
+-- some of what was left is put at a slice's start, and nothing after it changes
 pub record Fills (l m : List ℕ) (count : ℕ) (before after : List ℕ) : Type 0 where
   pub text : List ℕ
   pub put : Put l m 0 text count

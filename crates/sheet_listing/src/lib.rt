@@ -31,13 +31,13 @@ pub struct Lister {
     pub plan: Plan,
 }
 
-// The place behind a piece, and the state behind it.
+// The place after a piece, and the state after it.
 pub struct Stepped {
     pub next: usize,
     pub lister: Lister,
 }
 
-// How many bytes of pieces were put, and where the listing is behind them.
+// How many bytes of pieces were put, and where the listing is after them.
 pub struct PiecesPut {
     pub count: usize,
     pub lister: Lister,
@@ -52,7 +52,7 @@ pub struct Listing {
     pub lister: Lister,
 }
 
-// How many bytes were put, and the state behind them.
+// How many bytes were put, and the state after them.
 pub struct Filled {
     pub count: usize,
     pub listing: Listing,
@@ -234,7 +234,7 @@ impl Lister {
     }
 }
 
-// Pieces one behind the other from the slice's start, as many as there is surely room for.
+// Pieces one after the other from the slice's start, as many as there is surely room for.
 fn put_pieces(
     first: Lister,
     s: &[u8],

@@ -14,7 +14,7 @@ use Rattle.sheet_listing.specs.Listing.{restOf, listingOf, Fills, Ends}
 use Rattle.sheet_io.specs.declared.Progress.{Progress}
 use Rattle.sheet_io.specs.Progress.{placeOf}
 use Rattle.sheet_io.proofs.OutputProofs.{output-laws}
-use Rattle.sheet_program.specs.declared.Part.{Part}
+use Rattle.sheet_program.specs.declared.SentPart.{SentPart}
 use Rattle.sheet_program.specs.Program.{Sends, PartSent, Delivers, all, stop, on, Lists, Written, EveryListing}
 
 -- ---- one part
@@ -40,7 +40,7 @@ module _ (s : List ℕ) (st : Listing) where
   pub lists-start : restOf s st ≡ listingOf s → Listing-on s st
   lists-start e = record { onto = λ taken whole d. record { first = st; start = e; taken = taken; delivers = d } }
 
-  module _ (r : Part) (sent : PartSent s st r) where
+  module _ (r : SentPart) (sent : PartSent s st r) where
     pub part-less : (r .count ≡ 0 → ⊥) → length (restOf s (r .listing)) < length (restOf s st)
     part-less some =
         let n : length (restOf s st) ≡ length (sent .text) + length (restOf s (r .listing)) =

@@ -11,7 +11,7 @@ use Rattle.sheet_outcome.specs.Outcome.{statusOf, outcomeOf}
 use Rattle.sheet_io.specs.declared.Progress.{Progress}
 use Rattle.sheet_io.specs.Progress.{writtenOf, gotOf, startOf, afterOf, goesOn}
 use Rattle.sheet_io.specs.Output.{Writes}
-use Rattle.sheet_program.specs.declared.Part.{Part}
+use Rattle.sheet_program.specs.declared.SentPart.{SentPart}
 
 -- ---- calls
 
@@ -40,7 +40,7 @@ pub record Sends (bytes : List ℕ) (whole : Bool) : Type 0 where
 -- ---- a listing
 
 -- the next part of a listing was written; it is empty only where nothing is left
-pub record PartSent (s : List ℕ) (st : Listing) (r : Part) : Type 0 where
+pub record PartSent (s : List ℕ) (st : Listing) (r : SentPart) : Type 0 where
   pub text : List ℕ
   pub left : restOf s st ≡ text ++ restOf s (r .listing)
   pub count : r .count ≡ length text

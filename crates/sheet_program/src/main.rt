@@ -26,7 +26,7 @@ pub struct Received {
 }
 
 // A part of the listing: whether all of it was written, how many bytes it had, and the state after it.
-pub struct Part {
+pub struct SentPart {
     pub whole: bool,
     pub count: usize,
     pub listing: Listing,
@@ -106,7 +106,7 @@ fn receive(room: &mut [u8]) -> Received
 }
 
 // As much of the listing as a buffer holds, written.
-fn write_some(st: Listing, s: &[u8]) -> Part
+fn write_some(st: Listing, s: &[u8]) -> SentPart
     ensures { λ r. ⌜ PartSent (now (s .entry)) st r ⌝ }
 {
     let mut out = [0u8; 65536];
@@ -114,7 +114,7 @@ fn write_some(st: Listing, s: &[u8]) -> Part
     let count = filled.count;
     let listing = filled.listing;
     let whole = send(&out[..count]);
-    Part {
+    SentPart {
         whole,
         count,
         listing,

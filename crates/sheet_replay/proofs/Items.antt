@@ -1,4 +1,4 @@
--- Where the item at a place stands: behind the place, and inside the list.
+-- Where the item at a place stands: after the place, and inside the list.
 -- Assumes nothing.
 use mathlib.Core.Path.{_≡_, refl, sym, _∙_}
 use mathlib.Core.Bool.{Bool, true, false, _&&_}
@@ -56,7 +56,7 @@ module _ (t : List ℕ) (rule : Rule) (next v n : ℕ) (g : Bool) where
   unfolding tokenOf
   token-next e = by-dash (rule .dash && isDash t) e
 
--- the place behind a field is behind its own, and inside
+-- the place after a field is after its own, and inside
 pub field-next : (s : List ℕ) (at code sep v n : ℕ) (g : Bool) → fieldOf s at code sep ≡ F.At v g n → (at < n) × (n ≤ length s)
 unfolding fieldOf fieldUpTo
 field-next s at code sep v n g e =

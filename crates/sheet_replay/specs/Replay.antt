@@ -83,7 +83,7 @@ headOf s at =
     after-number (fieldOf s next word 10) λ m first.
     itemOf (length s) first n m
 
--- from a place on, behind so many items of which so many differ
+-- from a place on, after so many items of which so many differ
 pub data Replays (s : List ℕ) : ℕ → ℕ → ℕ → Verdict → Type 0 where
   ended : {at items differ : ℕ} → same endLine (drop at s) ≡ true → Replays s at items differ (record { ill = false; items = items; differ = differ })
   broken : {at items differ : ℕ} → same endLine (drop at s) ≡ false → headOf s at ≡ H.Ill → Replays s at items differ (record { ill = true; items = items; differ = differ })

@@ -18,14 +18,14 @@ const SPACE: usize = 262144;
 // Room for any line that is printed.
 const TEXT_BYTES: usize = 64;
 
-// Whether some bytes of a listing stand on the record, how many they are, and the state behind them.
+// Whether some bytes of a listing stand on the record, how many they are, and the state after them.
 pub struct Compared {
     pub agrees: bool,
     pub count: usize,
     pub listing: Listing,
 }
 
-// Where an item's sheet begins, where its listing does, and the place behind it.
+// Where an item's sheet begins, where its listing does, and the place after it.
 pub enum Head {
     Item(usize, usize, usize),
     Ill,
@@ -97,7 +97,7 @@ fn lists_as(s: &[u8], recorded: &[u8]) -> bool
     }
 }
 
-// A number, and a word behind it.
+// A number, and a word after it.
 fn put_counted(out: &mut [u8], at: usize, n: u64, word: &[u8]) -> usize
     requires { ⌜ at + (20 + length (now word)) ≤ length (now out) ⌝ }
     ensures { λ r. ⌜ Put (now (out .entry)) (now (out .exit)) at (decimal n ++ now (word .entry)) r ⌝ }
@@ -200,7 +200,7 @@ fn read_head(s: &[u8], at: usize) -> Head
     fit_item(s.len(), first, n as usize, m as usize)
 }
 
-// The last line, behind which nothing stands.
+// The last line, after which nothing stands.
 fn is_end(s: &[u8], at: usize) -> bool
     requires { ⌜ at ≤ length (now s) ⌝ }
     ensures { λ r. ⌜ r ≡ same endLine (drop at (now (s .entry))) ⌝ }

@@ -68,7 +68,7 @@ unfoldable pub kindOf : Field → ℕ
 kindOf (F.At kind gone next) = kind
 kindOf F.Ill = 0
 
--- the kind that a copy's line begins with, a space behind it
+-- the kind that a copy's line begins with, a space after it
 unfoldable pub kindAt : List ℕ → ℕ → ℕ
 kindAt s at = kindOf (fieldOf s at kind 32)
 
@@ -93,7 +93,7 @@ unfoldable pub placesOf : List ℕ → ℕ → ℕ → ℕ → List ℕ
 placesOf s section zero at = []
 placesOf s section (suc n) at = at ∷ placesOf s section n (sectionLine s section at .next)
 
--- n lines from a place on: the place behind them, or that of the first ill one
+-- n lines from a place on: the place after them, or that of the first ill one
 unfoldable pub rowsOf : List ℕ → ℕ → ℕ → ℕ → Rows
 rowsOf s section zero at = R.Past at
 rowsOf s section (suc n) at =

@@ -1,4 +1,4 @@
--- The sheet: four sections, each after its count, and nothing behind them.
+-- The sheet: four sections, each after its count, and nothing after them.
 use mathlib.Core.Path.{_≡_}
 use mathlib.Core.Bool.{not}
 use mathlib.Core.List.{List, [], _∷_}
@@ -33,7 +33,7 @@ unfoldable pub sectionOfRows : ℕ → ℕ → Rows → Section
 sectionOfRows count first (R.Past next) = S.Good (record { count = count; first = first; next = next })
 sectionOfRows count first (R.Bad at) = S.Bad at
 
--- a section whose count stands at a place, its lines behind it: a count out of bounds makes the count's own line ill
+-- a section whose count stands at a place, its lines after it: a count out of bounds makes the count's own line ill
 unfoldable pub sectionOfCount : List ℕ → ℕ → ℕ → ℕ → ℕ → Section
 sectionOfCount s section at count first =
     stop-if (ltb count (leastOf section)) (S.Bad at) $

@@ -23,7 +23,7 @@ pub const COPIES: usize = 3;
 // The most bytes of a sheet.
 const SHEET_BYTES: usize = 65536;
 
-// How many lines a section has, where the first begins, and the place behind the last.
+// How many lines a section has, where the first begins, and the place after the last.
 pub struct Part {
     pub count: usize,
     pub first: usize,
@@ -37,7 +37,7 @@ pub struct Parts {
     pub copies: Part,
 }
 
-// The place behind lines, or that of the first ill one.
+// The place after lines, or that of the first ill one.
 pub enum Rows {
     Past(usize),
     Bad(usize),
@@ -155,7 +155,7 @@ pub fn read_row(s: &[u8], section: usize, at: usize) -> Line
 // The most textures, and the most buffers, of a sheet.
 pub const MAX_RECORDS: usize = 64;
 
-// Where the lines of a section begin, as many as there is room for. What the slice has behind them is kept.
+// Where the lines of a section begin, as many as there is room for. What the slice has after them is kept.
 pub fn find_places(s: &[u8], section: usize, count: usize, first: usize, places: &mut [usize])
     ensures { λ _. ⌜ now (places .exit) ≡ sets (now (places .entry)) 0 (placesOf (now (s .entry)) section count first) ⌝ }
 {

@@ -1,4 +1,4 @@
-// Decimal numbers, words and lines as text. Each writer puts its text at a place of a slice and answers the place behind it.
+// Decimal numbers, words and lines as text. Each writer puts its text at a place of a slice and answers the place after it.
 ghost use mathlib.Core.Path.{_≡_};
 ghost use Prim.Native.Nat.{_+_, _*_, _≤_, _<_};
 ghost use lib.ListN.{length};

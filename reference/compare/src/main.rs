@@ -36,7 +36,7 @@ listings byte by byte. MODE is
                    ill, newline, extra, nothing
   --plant-at N     the Nth listing that has a place for it (1)
 
-The status is 1 if a listing differs, or a planner crashes, runs for more than 10
+The status is 1 if a listing differs, or a planner ends with another status than 0, runs for more than 10
 seconds or writes to standard error; 2 if nothing could be compared.
 ";
 

@@ -18,7 +18,7 @@ const BUFFER: u64 = 2;
 pub struct Answer {
     pub outcome: Outcome,
     pub ranges: Vec<RangeNumbers>,
-    /// The numbers of all regions, one region behind the other.
+    /// The numbers of all regions, one region after the other.
     pub regions: Vec<u64>,
 }
 

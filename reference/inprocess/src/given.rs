@@ -9,7 +9,7 @@ use crate::calls::{Numbered, Visitor};
 /// Stands where nothing was written; no copy has such a number.
 pub const GUARD: u64 = 0xa5a5_a5a5_5a5a_5a5a;
 
-/// Numbers behind the regions, half of them in the slice that is lent.
+/// Numbers after the regions, half of them in the slice that is lent.
 const GUARDS: usize = 4;
 
 /// Asking for regions ends here; the largest plan has 512.
@@ -23,7 +23,7 @@ pub const SLICE_TOO_SHORT: u32 = 38;
 pub struct Given {
     /// With the regions as they were asked for, one by one.
     pub answer: Answer,
-    /// The regions as they were written, with guards behind them.
+    /// The regions as they were written, with guards after them.
     pub slice: Vec<u64>,
     /// What the planner promises of plans and slices and did not keep.
     faults: Vec<&'static str>,
@@ -54,7 +54,7 @@ impl Given {
 
     /// Has all regions written by `write`, which returns 0 or a refusal: first
     /// into too short a slice, which it must leave as it is, then with guards
-    /// behind them. `is_unmoved` says whether a plan is as it was.
+    /// after them. `is_unmoved` says whether a plan is as it was.
     pub fn have_written<P>(
         &mut self,
         plan: &mut P,
