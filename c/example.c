@@ -113,6 +113,10 @@ static int list_standard_input(void)
     static uint8_t sheet[SHEET_BYTES];
     uint8_t none[1];
     size_t sheet_len = fread(sheet, 1, sizeof sheet, stdin);
+    if (ferror(stdin)) {
+        perror("standard input");
+        return EXIT_FAILURE;
+    }
     size_t len = copy_planner_list(sheet, sheet_len, none, 0);
     uint8_t *listing = malloc(len + 1);
     if (listing == NULL)
@@ -128,5 +132,11 @@ int main(int argc, char **argv)
     (void)argv;
     print_upload(0, 2);
     print_upload(1, 3);
-    return argc > 1 ? list_standard_input() : EXIT_SUCCESS;
+    int status = argc > 1 ? list_standard_input() : EXIT_SUCCESS;
+    /* What is still in the buffer may find the disk full. */
+    if (fflush(stdout) != 0 || ferror(stdout)) {
+        perror("standard output");
+        return EXIT_FAILURE;
+    }
+    return status;
 }

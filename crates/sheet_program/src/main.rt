@@ -195,6 +195,7 @@ fn main() {
     let headed = os::arg(3, &mut heading);
     let descriptor = status_descriptor();
     let received = receive(&mut sheet);
+    // In what is said of a failure errno is still that of the last call: nothing else was called since.
     if received.failed {
         say_unread(&label[..labelled]);
         report(descriptor, NOT_READ);
