@@ -74,7 +74,7 @@ state_of() { # WHAT FILE
     if [ -e "$2" ]; then echo "sources are newer than $1"; else echo "$1 is not built yet"; fi
 }
 
-# Says what is going to happen and how long it takes: five crates a minute on two processors.
+# Says what is going to happen and, of a build from nothing, how long it takes: five crates a minute on two processors.
 announce() { # WHAT FILE COUNT
     minutes=$((($3 + 4) / 5))
     case $3 in 1) crates='1 crate is' ;; *) crates="$3 crates are" ;; esac
@@ -104,7 +104,10 @@ has_kit() { # [WHAT FILE, which it is needed for]
         say "${why}rt is not here: the Rattle kit '$needed' is needed, with its command rt on PATH. Without it nothing can be proved or built"
         return 1
     fi
-    found=$(rt version 2>&1) || true
+    if ! found=$(rt version 2>&1); then
+        say "${why}rt does not run: $found"
+        return 1
+    fi
     if [ "$found" != "$needed" ]; then
         say "${why}rt is of another Rattle kit: '$found' is here, '$needed' is needed (file KIT)"
         return 1
@@ -255,7 +258,7 @@ explain_failure() {
         crate == "" && /^rt: [A-Za-z0-9_]+ proved, and its run FAILED/ { crate = $2 " is proved, but its run failed" }
         crate != "" { exit }
         /^rt: [A-Za-z0-9_]+ (proved|ran)/ { error = ""; next }
-        error == "" && /(: error|^note: [^ ]+:[0-9]+:[0-9]+: |^fn [^ ]+: no|^rt: )/ { error = $0; sub(/^(note|rt): /, "", error) }
+        error == "" && /(: error|^note: .*:[0-9]+:[0-9]+: |^fn [^ ]+: no|^rt: )/ { error = $0; sub(/^(note|rt): /, "", error) }
         END {
             if (crate == "") crate = ran " failed"
             i = index(error, root)

@@ -32,7 +32,8 @@ use Rattle.sheet_sections.specs.Rows.{copies, sectionLine}
 use Rattle.sheet_records.specs.Records.{valueOf, wordOf, wordOrAbsent, extentOf, originOf, viewOf, layoutOf}
 use Rattle.sheet_copies.specs.CopyLines.{textureSideAt, namedBuffers, buffersPlanned, namedCopy, copyPlanned, namedTextures, texturesPlanned, linePlanned}
 use Rattle.sheet_lines.specs.Lines.{sheetText, copyText, refusalText, answerText}
-use Rattle.sheet_listing.specs.Listing.{noPlan, planAnswered, regionsText, copyAnswer, answerAt, copiesText, texturePlaces, bufferPlaces, deviceAt, listingFrom, listingOf}
+use Rattle.sheet_copies.specs.Answers.{texturePlaces, bufferPlaces, deviceAt, answerAt}
+use Rattle.sheet_listing.specs.Listing.{noPlan, planAnswered, regionsText, copyAnswer, copiesText, listingFrom, listingOf}
 use Rattle.claim_region_output.specs.Numbers.{optional}
 use Rattle.claim_region_output.specs.Text.{text, line, refused}
 use Rattle.claim_region_output.specs.Printed.{Prints, none, plan, refusal, answers, EverySheetLists}

@@ -1,1 +1,2 @@
 pub mod CopyLines
+pub mod Answers

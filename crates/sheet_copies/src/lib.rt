@@ -3,6 +3,7 @@ ghost use mathlib.Core.Path.{_≡_};
 ghost use Prim.Native.Nat.{_<_, _+_};
 ghost use lib.ListN.{getD};
 ghost use Rattle.sheet_records.specs.Records.{wordOf};
+ghost use Rattle.sheet_copies.specs.Answers.{deviceAt};
 ghost use Rattle.sheet_copies.specs.CopyLines.{textureAt, bufferAt, textureSideAt, past, namedBuffers, namedCopy, namedTextures, buffersPlanned, copyPlanned, texturesPlanned, linePlanned};
 use copy_kinds::Planned;
 use records::Buffer;
@@ -11,6 +12,7 @@ use records::Texture;
 use records::TextureSide;
 use refusals::TransferError;
 use sheet_fields::Line;
+use sheet_sections::Parts;
 
 fn is_past(places: &[usize], l: Line, i: usize) -> bool
     requires { ⌜ i < 16 ⌝ }
@@ -162,4 +164,12 @@ pub fn plan_line(
         return plan_textures(s, textures, l);
     }
     plan_buffer_texture(s, textures, buffers, device, l)
+}
+
+// The device of a good sheet.
+pub fn device_at(s: &[u8], p: Parts) -> Device
+    ensures { λ r. ⌜ r ≡ deviceAt (now (s .entry)) p ⌝ }
+{
+    let devices = p.devices;
+    sheet_records::device_of(sheet_sections::read_row(s, sheet_sections::DEVICES, devices.first))
 }

@@ -17,8 +17,9 @@ use Rattle.slices.specs.Put.{Put}
 use Rattle.slices.proofs.Puts.{put-none, put-then, put-length}
 use Rattle.sheet_lines.specs.Lines.{sheetText, answerText, regionText}
 use Rattle.sheet_lines.proofs.LineLaws.{sheet-few, region-few, answer-few, sheet-some, region-some, answer-some}
+use Rattle.sheet_copies.specs.Answers.{answerAt}
 use Rattle.sheet_listing.specs.declared.Lister.{Lister}
-use Rattle.sheet_listing.specs.Listing.{regionsText, noPlan, planAnswered, copyAnswer, answerAt, copiesText, stateWith, answerOf, pieceOf, nextOf, textLeft, Fills, Ends}
+use Rattle.sheet_listing.specs.Listing.{regionsText, noPlan, planAnswered, copyAnswer, copiesText, stateWith, answerOf, pieceOf, nextOf, textLeft, Fills, Ends}
 use Rattle.sheet_listing.proofs.Pieces.{piece-ill, next-ill, piece-region, next-region, piece-copy, next-copy, piece-none, next-none}
 
 -- ---- by cases on a state

@@ -21,8 +21,9 @@ use Rattle.slices.specs.Put.{Put}
 use Rattle.sheet_text.specs.Text.{spaced, lineText}
 use Rattle.slices.proofs.Puts.{put-as, put-none}
 use Rattle.sheet_lines.specs.Lines.{okWord, refusedWord, sheetText, copyText, planText, refusalText, answerText, regionText}
+use Rattle.sheet_copies.specs.Answers.{answerAt}
 use Rattle.sheet_listing.specs.declared.Lister.{Lister}
-use Rattle.sheet_listing.specs.Listing.{regionsText, noPlan, planAnswered, copyAnswer, answerAt, copiesText, stateWith, answerOf, pieceOf, nextOf, textLeft}
+use Rattle.sheet_listing.specs.Listing.{regionsText, noPlan, planAnswered, copyAnswer, copiesText, stateWith, answerOf, pieceOf, nextOf, textLeft}
 
 -- ---- one step, by the state
 

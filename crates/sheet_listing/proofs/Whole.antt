@@ -17,30 +17,13 @@ use Rattle.sheet_sections.specs.declared.Parts.{Parts}
 use Rattle.sheet_sections.specs.declared.Sheet.the-variants as W
 use Rattle.sheet_sections.specs.Rows.{textures, buffers, placesOf}
 use Rattle.sheet_sections.specs.Sheet.{mostOf, sheetOf}
-use Rattle.sheet_sections.proofs.RowLaws.{places-length}
-use Rattle.sheet_sections.proofs.SheetProofs.{sheet-laws}
+use Rattle.sheet_sections.proofs.PlaceLaws.{found, textures-few, buffers-few}
+use Rattle.sheet_copies.specs.Answers.{texturePlaces, bufferPlaces, deviceAt}
 use Rattle.sheet_listing.specs.declared.Lister.{Lister}
 use Rattle.sheet_listing.specs.declared.Listing.{Listing}
-use Rattle.sheet_listing.specs.Listing.{regionsText, noPlan, texturePlaces, bufferPlaces, deviceAt, listingFrom, listingOf, textLeft, restOf, Fills, Ends, Gives, ended, filled, Listed}
+use Rattle.sheet_listing.specs.Listing.{regionsText, noPlan, listingFrom, listingOf, textLeft, restOf, Fills, Ends, Gives, ended, filled, Listed}
 
 -- ---- the start
-
--- the places that were found, as many as there are
-pub found : (s : List ℕ) (section n first : ℕ) (l : List ℕ) → l ≡ sets (replicate 64 0) 0 (placesOf s section n first) → n ≤ 64 → take n l ≡ placesOf s section n first
-found s section n first l is few =
-    let places = placesOf s section n first in
-    let count : length places ≡ n = places-length s section n first in
-    let room : 0 + length places ≤ 64 = omega (arith, count) in
-    rw (is, sets-eq places (replicate 64 0) 0 room) (take-at places (drop (0 + length places) (replicate 64 0)) n count)
-
-module _ (s : List ℕ) (p : Parts) (good : W.Good p ≡ sheetOf s) where
-  pub textures-few : p .textures .count ≤ 64
-  unfolding mostOf
-  textures-few = sheet-laws .parts s p (sym good) .textures .most
-
-  pub buffers-few : p .buffers .count ≤ 64
-  unfolding mostOf
-  buffers-few = sheet-laws .parts s p (sym good) .buffers .most
 
 pub started-good :
     (s : List ℕ) (p : Parts) (ts bs : List ℕ) (device : Device) (plan : Plan) → W.Good p ≡ sheetOf s

@@ -16,10 +16,9 @@ use Rattle.plan_kinds.specs.Regions.{leftOf, behindOf}
 use Rattle.sheet_sections.specs.declared.Parts.{Parts}
 use Rattle.sheet_sections.specs.declared.Sheet.{Sheet}
 use Rattle.sheet_sections.specs.declared.Sheet.the-variants as W
-use Rattle.sheet_sections.specs.Rows.{devices, textures, buffers, copies, sectionLine, placesOf}
+use Rattle.sheet_sections.specs.Rows.{copies, sectionLine}
 use Rattle.sheet_sections.specs.Sheet.{sheetOf}
-use Rattle.sheet_records.specs.Records.{deviceOf}
-use Rattle.sheet_copies.specs.CopyLines.{linePlanned}
+use Rattle.sheet_copies.specs.Answers.{texturePlaces, bufferPlaces, deviceAt, answerAt}
 use Rattle.slices.specs.Put.{Put}
 use Rattle.sheet_listing.specs.declared.Lister.{Lister}
 use Rattle.sheet_listing.specs.declared.Listing.{Listing}
@@ -52,25 +51,11 @@ planAnswered (P.Refused e) = noPlan
 unfoldable pub copyAnswer : ℕ → Planned → List ℕ
 copyAnswer k a = answerText k a ++ regionsText (leftOf (planAnswered a)) (planAnswered a)
 
--- the answer to the copy line at a place
-unfoldable pub answerAt : List ℕ → List ℕ → List ℕ → Device → ℕ → Planned
-answerAt s ts bs device at = linePlanned s ts bs device (sectionLine s copies at)
-
 -- the last n of so many copies, whose lines begin at a place; ts and bs are where texture and buffer lines begin
 module _ (s ts bs : List ℕ) (device : Device) (total : ℕ) where
   unfoldable pub copiesText : ℕ → ℕ → List ℕ
   copiesText zero at = []
   copiesText (suc n) at = copyAnswer (total - suc n) (answerAt s ts bs device at) ++ copiesText n (sectionLine s copies at .next)
-
--- where a good sheet's texture and buffer lines begin, and its device
-unfoldable pub texturePlaces : List ℕ → Parts → List ℕ
-texturePlaces s p = placesOf s textures (p .textures .count) (p .textures .first)
-
-unfoldable pub bufferPlaces : List ℕ → Parts → List ℕ
-bufferPlaces s p = placesOf s buffers (p .buffers .count) (p .buffers .first)
-
-unfoldable pub deviceAt : List ℕ → Parts → Device
-deviceAt s p = deviceOf (sectionLine s devices (p .devices .first))
 
 unfoldable pub listingFrom : List ℕ → Sheet → List ℕ
 listingFrom s (W.Good p) =

@@ -6,7 +6,7 @@ ghost use lib.ListN.{length};
 ghost use Rattle.sheet_sections.specs.Sheet.{sheetOf};
 ghost use Rattle.slices.specs.Put.{Put};
 ghost use Rattle.sheet_lines.specs.Lines.{pieceBytes, sheetText};
-ghost use Rattle.sheet_listing.specs.Listing.{noPlan, planAnswered, deviceAt, answerOf, pieceOf, stateWith, nextOf, textLeft, restOf, listingOf, Fills, Ends, Listed};
+ghost use Rattle.sheet_listing.specs.Listing.{noPlan, planAnswered, answerOf, pieceOf, stateWith, nextOf, textLeft, restOf, listingOf, Fills, Ends, Listed};
 use copy_kinds::Planned;
 use plan_buffers::BufferCopy;
 use plan_buffers::BufferPlan;
@@ -84,13 +84,6 @@ fn plan_of(answer: Planned) -> Plan
     }
 }
 
-fn device_at(s: &[u8], p: Parts) -> Device
-    ensures { λ r. ⌜ r ≡ deviceAt (now (s .entry)) p ⌝ }
-{
-    let devices = p.devices;
-    sheet_records::device_of(sheet_sections::read_row(s, sheet_sections::DEVICES, devices.first))
-}
-
 // A good sheet, with the places of its records. Its counts are at most 64, so none is cut off.
 fn start_good(s: &[u8], p: Parts) -> Listing
     requires { ⌜ Sheet.Good p ≡ sheetOf (now s) ⌝ }
@@ -103,7 +96,7 @@ fn start_good(s: &[u8], p: Parts) -> Listing
     let mut buffers = [0usize; sheet_sections::MAX_RECORDS];
     sheet_sections::find_places(s, sheet_sections::TEXTURES, t.count, t.first, &mut textures);
     sheet_sections::find_places(s, sheet_sections::BUFFERS, b.count, b.first, &mut buffers);
-    let device = device_at(s, p);
+    let device = sheet_copies::device_at(s, p);
     let plan = no_plan();
     let lister = Lister {
         ill: false,

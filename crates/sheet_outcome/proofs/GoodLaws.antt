@@ -8,14 +8,12 @@ use native.Mathlib.Omega.{arith}
 use lib.ListN.{length, take, replicate}
 use lib.Seq.{sets, length-sets, length-take-le}
 use Rattle.records.specs.declared.Device.{Device}
-use Rattle.sheet_fields.specs.declared.Line.{Line}
 use Rattle.sheet_sections.specs.declared.Parts.{Parts}
 use Rattle.sheet_sections.specs.declared.Sheet.the-variants as W
-use Rattle.sheet_sections.specs.Rows.{devices, textures, buffers, placesOf, sectionLine}
+use Rattle.sheet_sections.specs.Rows.{textures, buffers, placesOf}
 use Rattle.sheet_sections.specs.Sheet.{sheetOf}
-use Rattle.sheet_records.specs.Records.{deviceOf}
-use Rattle.sheet_listing.specs.Listing.{texturePlaces, bufferPlaces, deviceAt}
-use Rattle.sheet_listing.proofs.Whole.{found, textures-few, buffers-few}
+use Rattle.sheet_sections.proofs.PlaceLaws.{found, textures-few, buffers-few}
+use Rattle.sheet_copies.specs.Answers.{texturePlaces, bufferPlaces, deviceAt}
 use Rattle.sheet_outcome.specs.declared.Outcome.the-variants.{Accepted, Refused}
 use Rattle.sheet_outcome.specs.Outcome.{anyRefused, outcomeFrom}
 
@@ -27,20 +25,19 @@ module _ (s : List ℕ) (section n first : ℕ) (l : List ℕ) (is : l ≡ sets 
   pub counted : n ≡ length (take n l)
   counted = sym (length-take-le n l inside)
 
-module _ (s : List ℕ) (p : Parts) (ts bs : List ℕ) (l : Line) (device : Device) (t : Bool) (good : W.Good p ≡ sheetOf s)
+module _ (s : List ℕ) (p : Parts) (ts bs : List ℕ) (device : Device) (t : Bool) (good : W.Good p ≡ sheetOf s)
     (at-textures : ts ≡ sets (replicate 64 0) 0 (placesOf s textures (p .textures .count) (p .textures .first)))
     (at-buffers : bs ≡ sets (replicate 64 0) 0 (placesOf s buffers (p .buffers .count) (p .buffers .first)))
-    (line : l ≡ sectionLine s devices (p .devices .first)) (its-device : device ≡ deviceOf l)
+    (its-device : device ≡ deviceAt s p)
     (test : t ≡ anyRefused s (take (p .textures .count) ts) (take (p .buffers .count) bs) device (p .copies .count) (p .copies .first)) where
   refused : anyRefused s (texturePlaces s p) (bufferPlaces s p) (deviceAt s p) (p .copies .count) (p .copies .first) ≡ t
-  unfolding texturePlaces bufferPlaces deviceAt
+  unfolding texturePlaces bufferPlaces
   refused =
       rw (
         test,
         found s textures (p .textures .count) (p .textures .first) ts at-textures (textures-few s p good),
         found s buffers (p .buffers .count) (p .buffers .first) bs at-buffers (buffers-few s p good),
         its-device,
-        line,
       )
 
   pub one-refused : t ≡ true → Refused ≡ outcomeFrom s (W.Good p)

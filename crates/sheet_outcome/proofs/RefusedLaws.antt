@@ -10,7 +10,7 @@ use Rattle.copy_kinds.specs.declared.Planned.{Planned}
 use Rattle.sheet_fields.specs.declared.Line.{Line}
 use Rattle.sheet_sections.specs.Rows.{copies, sectionLine}
 use Rattle.sheet_copies.specs.CopyLines.{linePlanned}
-use Rattle.sheet_listing.specs.Listing.{answerAt}
+use Rattle.sheet_copies.specs.Answers.{answerAt}
 use Rattle.sheet_outcome.specs.Outcome.{isRefused, anyRefused}
 
 module _ (s ts bs : List ℕ) (device : Device) where

@@ -10,7 +10,7 @@ use Rattle.sheet_sections.specs.declared.Sheet.{Sheet}
 use Rattle.sheet_sections.specs.declared.Sheet.the-variants as W
 use Rattle.sheet_sections.specs.Rows.{copies, sectionLine}
 use Rattle.sheet_sections.specs.Sheet.{sheetOf}
-use Rattle.sheet_listing.specs.Listing.{answerAt, texturePlaces, bufferPlaces, deviceAt}
+use Rattle.sheet_copies.specs.Answers.{texturePlaces, bufferPlaces, deviceAt, answerAt}
 use Rattle.sheet_outcome.specs.declared.Outcome.{Outcome}
 use Rattle.sheet_outcome.specs.declared.Outcome.the-variants.{Accepted, Refused, Ill}
 

@@ -66,14 +66,12 @@ fn good_outcome(s: &[u8], p: Parts) -> Outcome
 {
     let t = p.textures;
     let b = p.buffers;
-    let d = p.devices;
     let copies = p.copies;
     let mut textures = [0usize; sheet_sections::MAX_RECORDS];
     let mut buffers = [0usize; sheet_sections::MAX_RECORDS];
     sheet_sections::find_places(s, sheet_sections::TEXTURES, t.count, t.first, &mut textures);
     sheet_sections::find_places(s, sheet_sections::BUFFERS, b.count, b.first, &mut buffers);
-    let line = sheet_sections::read_row(s, sheet_sections::DEVICES, d.first);
-    let device = sheet_records::device_of(line);
+    let device = sheet_copies::device_at(s, p);
     let m = t.count;
     let n = b.count;
     let refused = any_refused(

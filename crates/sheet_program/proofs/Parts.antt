@@ -15,7 +15,10 @@ use Rattle.sheet_io.specs.declared.Progress.{Progress}
 use Rattle.sheet_io.specs.Progress.{placeOf}
 use Rattle.sheet_io.proofs.OutputProofs.{output-laws}
 use Rattle.sheet_program.specs.declared.SentPart.{SentPart}
-use Rattle.sheet_program.specs.Program.{Sends, PartSent, Delivers, all, stop, on, Lists, Written, EveryListing}
+use Rattle.sheet_calls.specs.Calls.{Sends}
+use Rattle.sheet_outcome.specs.declared.Outcome.{Outcome}
+use Rattle.sheet_outcome.specs.Outcome.{statusOf, outcomeOf}
+use Rattle.sheet_program.specs.Program.{PartSent, Delivers, all, stop, on, Lists, Written, EveryListing, StatusFor, no-heading, no-listing, listed}
 
 -- ---- one part
 
@@ -94,3 +97,23 @@ pub every-listing : EveryListing
 every-listing s whole l =
     let f = delivered s (l .delivers) in
     record { rest = f .rest; front = sym (l .start) ∙ f .front; all = λ z. f .same z ∙ l .start }
+
+-- ---- the status
+
+module _ {s heading : List ℕ} {sent : Bool} (h : Sends heading sent) where
+  pub status-unheaded : not sent ≡ true → StatusFor s heading 3
+  status-unheaded e = no-heading (subst (Sends heading) (not-true sent e) h)
+
+  module _ (g : not sent ≡ false) {whole : Bool} (l : Lists s whole) where
+    headed : Sends heading true
+    headed = subst (Sends heading) (not-false sent g) h
+
+    pub status-unlisted : not whole ≡ true → StatusFor s heading 3
+    status-unlisted e = no-listing headed (subst (Lists s) (not-true whole e) l)
+
+pub status-listed :
+    {s heading : List ℕ} {sent whole : Bool} (o : Outcome) (r : ℕ) → Sends heading sent → not sent ≡ false → Lists s whole → not whole ≡ false
+    → r ≡ statusOf o → o ≡ outcomeOf s → StatusFor s heading r
+status-listed {s} {heading} {sent} {whole} o r h g l k e is =
+    let n : r ≡ statusOf (outcomeOf s) = e ∙ ap statusOf is in
+    subst (StatusFor s heading) (sym n) (listed (subst (Sends heading) (not-false sent g) h) (subst (Lists s) (not-false whole k) l))

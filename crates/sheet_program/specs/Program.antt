@@ -1,41 +1,14 @@
--- What the program does by its calls of `read` and `write`, whatever the system answers to them.
+-- What the program writes, whatever the system answers to its calls, and its status.
 use mathlib.Core.Path.{_≡_}
-use mathlib.Core.Bool.{Bool, true, false, not}
-use mathlib.Core.Logic.{_⊎_}
+use mathlib.Core.Bool.{Bool, true, false}
 use mathlib.Core.List.{List, [], _++_}
 use Prim.Native.Nat.{ℕ}
 use lib.ListN.{length}
 use Rattle.sheet_listing.specs.declared.Listing.{Listing}
 use Rattle.sheet_listing.specs.Listing.{restOf, listingOf}
 use Rattle.sheet_outcome.specs.Outcome.{statusOf, outcomeOf}
-use Rattle.sheet_io.specs.declared.Progress.{Progress}
-use Rattle.sheet_io.specs.Progress.{writtenOf, gotOf, startOf, afterOf, goesOn}
-use Rattle.sheet_io.specs.Output.{Writes}
+use Rattle.sheet_calls.specs.Calls.{Sends}
 use Rattle.sheet_program.specs.declared.SentPart.{SentPart}
-
--- ---- calls
-
--- a write was made
-pub record Wrote (p r : Progress) : Type 0 where
-  pub count : ℕ
-  pub failed : Bool
-  pub passes : Bool
-  pub after : r ≡ afterOf p (writtenOf count failed passes)
-
--- a read was made
-pub record Got (p r : Progress) : Type 0 where
-  pub count : ℕ
-  pub failed : Bool
-  pub passes : Bool
-  pub after : r ≡ afterOf p (gotOf count failed passes)
-
--- some bytes were written by calls in turn, until there was no reason for another
-pub record Sends (bytes : List ℕ) (whole : Bool) : Type 0 where
-  pub taken : List ℕ
-  pub last : Progress
-  pub writes : Writes bytes (startOf (length bytes)) taken last
-  pub ended : goesOn last ≡ false
-  pub told : whole ≡ not (last .failed)
 
 -- ---- a listing
 
@@ -73,6 +46,8 @@ EveryListing = (s : List ℕ) (whole : Bool) (l : Lists s whole) → Written s (
 
 -- ---- the status
 
--- 3 where the listing is not written whole, else what became of the sheet
-abbrev pub StatusFor : List ℕ → ℕ → Type 0
-StatusFor s status = (status ≡ 3) ⊎ (status ≡ statusOf (outcomeOf s))
+-- what became of the sheet where heading and listing were written whole, else 3
+pub data StatusFor (s heading : List ℕ) : ℕ → Type 0 where
+  no-heading : Sends heading false → StatusFor s heading 3
+  no-listing : Sends heading true → Lists s false → StatusFor s heading 3
+  listed : Sends heading true → Lists s true → StatusFor s heading (statusOf (outcomeOf s))

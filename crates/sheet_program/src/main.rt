@@ -4,14 +4,7 @@
 //
 // DESCRIPTOR is a digit from 3 on: the status is written there in the end, since a program in Rattle cannot exit with one. LABEL comes
 // before the error of a read, HEADING before the listing.
-ghost use mathlib.Core.Path.{_≡_};
-ghost use lib.ListN.{length};
-ghost use Rattle.io.specs.Counts.{Counts};
-ghost use Rattle.sheet_io.specs.Progress.{afterOf};
-ghost use Rattle.sheet_program.specs.Program.{Wrote, Got, Sends, PartSent, Lists, StatusFor, EveryListing};
-use libc::STDOUT_FILENO;
-use sheet_io::Answer;
-use sheet_io::Progress;
+ghost use Rattle.sheet_program.specs.Program.{PartSent, Lists, StatusFor, EveryListing};
 use sheet_listing::Listing;
 
 // The status where the listing was not written whole, and where the sheet was not read.
@@ -19,90 +12,14 @@ const NOT_WRITTEN: u8 = 3;
 
 const NOT_READ: u8 = 4;
 
-// How many bytes of the sheet were read, and whether that failed.
-pub struct Received {
-    pub count: usize,
-    pub failed: bool,
-}
+// Room for any path, and what stands around it.
+const LABEL_BYTES: usize = 8192;
 
 // A part of the listing: whether all of it was written, how many bytes it had, and the state after it.
 pub struct SentPart {
     pub whole: bool,
     pub count: usize,
     pub listing: Listing,
-}
-
-// An error that passes: the call was interrupted, or would have had to wait.
-fn error_passes() -> bool {
-    let error = os::errno();
-    if error == libc::EINTR {
-        return true;
-    }
-    error == libc::EAGAIN
-}
-
-// Takes note of a call. Where it moved nothing and there is to be another, waits a little.
-fn settle(p: Progress, answer: Answer) -> Progress
-    ensures { λ r. ⌜ r ≡ afterOf p answer ⌝ }
-{
-    let next = p.after(answer);
-    if next.goes_on() {
-        if next.tries < sheet_io::TRIES {
-            sheet_pause::pause();
-        }
-    }
-    next
-}
-
-// One write of the bytes that are left.
-fn write_once(p: Progress, rest: &[u8]) -> Progress
-    requires { ⌜ length (now rest) ≡ p .left ⌝ }
-    ensures { λ r. ⌜ Wrote p r ⌝ }
-{
-    let returned = libc::write(STDOUT_FILENO, rest);
-    let passes = error_passes();
-    let count = io::count(returned, rest);
-    settle(p, sheet_io::written(count, returned < 0, passes))
-}
-
-// One read into the room that is left.
-fn read_once(p: Progress, room: &mut [u8]) -> Progress
-    requires { ⌜ length (now room) ≡ p .left ⌝ }
-    ensures { λ r. ⌜ Got p r ⌝ }
-{
-    let returned = libc::read(libc::STDIN_FILENO, room);
-    let passes = error_passes();
-    let count = io::count(returned, room);
-    settle(p, sheet_io::got(count, returned < 0, passes))
-}
-
-// Writes some bytes, and answers whether all of them were written.
-fn send(bytes: &[u8]) -> bool
-    ensures { λ r. ⌜ Sends (now (bytes .entry)) r ⌝ }
-{
-    let mut p = sheet_io::begin(bytes.len());
-    while p.goes_on() {
-        let from = p.place(bytes.len());
-        let next = write_once(p, &bytes[from..]);
-        p = next;
-    }
-    !p.failed
-}
-
-// Reads until the room is full or the input ends.
-fn receive(room: &mut [u8]) -> Received
-    ensures { λ r. ⌜ Counts (r .count) (now (room .exit)) ⌝ }
-{
-    let mut p = sheet_io::begin(room.len());
-    while p.goes_on() {
-        let from = p.place(room.len());
-        let next = read_once(p, &mut room[from..]);
-        p = next;
-    }
-    Received {
-        count: p.place(room.len()),
-        failed: p.failed,
-    }
 }
 
 // As much of the listing as a buffer holds, written.
@@ -113,7 +30,7 @@ fn write_some(st: Listing, s: &[u8]) -> SentPart
     let filled = sheet_listing::fill(st, s, &mut out);
     let count = filled.count;
     let listing = filled.listing;
-    let whole = send(&out[..count]);
+    let whole = sheet_calls::send(&out[..count]);
     SentPart {
         whole,
         count,
@@ -141,9 +58,9 @@ fn list(s: &[u8]) -> bool
 
 // Writes the heading and the listing, and answers the status.
 fn list_sheet(s: &[u8], heading: &[u8]) -> u8
-    ensures { λ r. ⌜ StatusFor (now (s .entry)) r ⌝ }
+    ensures { λ r. ⌜ StatusFor (now (s .entry)) (now (heading .entry)) r ⌝ }
 {
-    if !send(heading) {
+    if !sheet_calls::send(heading) {
         return NOT_WRITTEN;
     }
     if !list(s) {
@@ -154,10 +71,10 @@ fn list_sheet(s: &[u8], heading: &[u8]) -> u8
 
 fn say_unread(label: &[u8]) {
     if label.len() == 0 {
-        os::fail(b"standard input");
+        sheet_calls::say_failure(b"standard input");
         return;
     }
-    os::fail(label);
+    sheet_calls::say_failure(label);
 }
 
 // The descriptor for the status, or -1 for none.
@@ -188,14 +105,16 @@ fn report(descriptor: i32, status: u8) {
 }
 
 fn main() {
-    let mut label = io::buffer();
-    let mut heading = io::buffer();
+    let mut name = io::buffer();
+    let mut label = [0u8; LABEL_BYTES];
+    let mut heading = [0u8; LABEL_BYTES];
     let mut sheet = [0u8; 65537];
     let labelled = os::arg(2, &mut label);
     let headed = os::arg(3, &mut heading);
     let descriptor = status_descriptor();
-    let received = receive(&mut sheet);
-    // In what is said of a failure errno is still that of the last call: nothing else was called since.
+    // For its errno, 0: no call has failed yet.
+    os::arg(0, &mut name);
+    let received = sheet_calls::receive(&mut sheet);
     if received.failed {
         say_unread(&label[..labelled]);
         report(descriptor, NOT_READ);
@@ -204,7 +123,7 @@ fn main() {
     let n = received.count;
     let status = list_sheet(&sheet[..n], &heading[..headed]);
     if status == NOT_WRITTEN {
-        os::fail(b"plan: the listing is not written whole");
+        sheet_calls::say_failure(b"plan: the listing is not written whole");
     }
     report(descriptor, status);
 }

@@ -1,3 +1,4 @@
 pub mod RowLaws
 pub mod SectionLaws
 pub mod SheetProofs
+pub mod PlaceLaws

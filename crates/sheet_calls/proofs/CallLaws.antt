@@ -6,13 +6,15 @@ use mathlib.Core.List.{List, []}
 use Prim.Native.Nat.{ℕ, _-_, _≤_, _<_}
 use native.Mathlib.Omega.{arith}
 use lib.ListN.{length, take, drop, length-drop}
-use lib.Seq.{length-take-le}
+use lib.Seq.{length-take-le, take-all}
 use borrow.Rule.Slice.PartMut.{midOf, putMid, same-len-mid}
 use Rattle.sheet_io.specs.declared.Progress.{Progress}
 use Rattle.sheet_io.specs.Progress.{writtenOf, gotOf, startOf, afterOf, goesOn, placeOf}
 use Rattle.sheet_io.specs.Output.{Writes, none, call, callsLeft}
 use Rattle.sheet_io.proofs.OutputProofs.{output-laws}
-use Rattle.sheet_program.specs.Program.{Wrote, Got, Sends}
+use Rattle.sheet_calls.specs.declared.Received.{Received}
+use Rattle.sheet_calls.specs.Calls as R
+use Rattle.sheet_calls.specs.Calls.{Wrote, Got, Sends, Receives}
 
 -- calls from the start came this far
 pub record Reached (bytes : List ℕ) (q : Progress) : Type 0 where
@@ -50,22 +52,28 @@ module _ (p : Progress) (t : Bool) (r : Progress) (test : t ≡ goesOn p) (go : 
   pub receiving-less : Got p r → callsLeft r < callsLeft p
   receiving-less w = rw (w .after) (output-laws .reads-end p (w .count) (w .failed) (w .passes) (sym test ∙ go))
 
--- bytes that are read call by call: the room keeps its length, and no more of it is left
+-- bytes that are read call by call: the room keeps its length, no more of it is left, and whatever calls follow, they follow others that began
+-- at the start
 pub record Receiving (room₀ room : List ℕ) (p : Progress) : Type 0 where
   pub same : length room ≡ length room₀
   pub left : p .left ≤ length room
+  pub onto : (q : Progress) → R.Reads p q → R.Reads (startOf (length room₀)) q
 
 pub receiving-starts : (room : List ℕ) (p : Progress) → p ≡ startOf (length room) → Receiving room room p
 unfolding startOf
-receiving-starts room p e = record { same = refl; left = rw e (omega arith) }
+receiving-starts room p e = record { same = refl; left = rw e (omega arith); onto = λ q w. rw (← e) w }
 
 pub receiving-on :
-    {room₀ room : List ℕ} {p r : Progress} (from k : ℕ) (got : List ℕ) → Receiving room₀ room p → Got p r
+    {room₀ room : List ℕ} {p r : Progress} (from k : ℕ) (got : List ℕ) (t : Bool) → Receiving room₀ room p → t ≡ goesOn p → t ≡ true → Got p r
     → length got ≡ length (midOf from k room) → Receiving room₀ (putMid from k room got) r
-receiving-on {room₀} {room} {p} {r} from k got i w e =
+receiving-on {room₀} {room} {p} {r} from k got t i test go w e =
     let n : length (putMid from k room got) ≡ length room = same-len-mid from k room got e in
     let fewer : r .left ≤ p .left = rw (w .after) (output-laws .fewer p (gotOf (w .count) (w .failed) (w .passes))) in
-    record { same = n ∙ i .same; left = omega (arith, i .left) }
+    record {
+      same = n ∙ i .same;
+      left = omega (arith, i .left);
+      onto = λ q ws. i .onto q (R.call (sym test ∙ go) (w .count) (w .failed) (w .passes) (rw (← w .after) ws));
+    }
 
 pub place-fits : (n from : ℕ) (p : Progress) → from ≡ placeOf n p → from ≤ n
 unfolding placeOf
@@ -77,8 +85,17 @@ room-rest room p from few e =
     let n : length (drop from room) ≡ length room - from = length-drop from room in
     length-take-le (length room - from) (drop from room) (omega arith) ∙ omega arith
 
-pub sending-rest : {bytes : List ℕ} {p : Progress} (from : ℕ) → Sending bytes p → from ≡ placeOf (length bytes) p → length (take (length bytes - from) (drop from bytes)) ≡ p .left
-sending-rest {bytes} {p} from i e = room-rest bytes p from (i .left) e
+-- what a write is handed: the bytes from the place on
+pub sending-rest : {bytes : List ℕ} {p : Progress} (from : ℕ) → Sending bytes p → from ≡ placeOf (length bytes) p → take (length bytes - from) (drop from bytes) ≡ drop (placeOf (length bytes) p) bytes
+sending-rest {bytes} {p} from i e =
+    let n : length (drop from bytes) ≡ length bytes - from = length-drop from bytes in
+    take-all (length bytes - from) (drop from bytes) (omega arith) ∙ ap (λ (k : ℕ). drop k bytes) e
 
 pub receiving-rest : {room₀ room : List ℕ} {p : Progress} (from : ℕ) → Receiving room₀ room p → from ≡ placeOf (length room) p → length (take (length room - from) (drop from room)) ≡ p .left
 receiving-rest {room₀} {room} {p} from i e = room-rest room p from (i .left) e
+
+pub receives :
+    {room₀ room : List ℕ} {p : Progress} (t : Bool) (count : ℕ) → Receiving room₀ room p → t ≡ goesOn p → t ≡ false → count ≡ placeOf (length room) p
+    → Receives (length room₀) (record { count = count; failed = p .failed })
+receives {room₀} {room} {p} t count i test stop is =
+    record { last = p; reads = i .onto p R.none; ended = sym test ∙ stop; count = is ∙ ap (λ (n : ℕ). placeOf n p) (i .same); failed = refl }

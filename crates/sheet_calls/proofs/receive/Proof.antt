@@ -6,9 +6,9 @@ use borrow.Author.Needs.{needs}
 use lib.ListN.{length}
 use lib.Seq.{length-take-le}
 use Rattle.sheet_io.specs.Output.{callsLeft}
-use Rattle.sheet_program.proofs.Calls.{Receiving, receiving-starts, receiving-on, receiving-less, receiving-rest, place-fits}
-use Rattle.sheet_program.proofs.receive.Statement.{statement}
-use Rattle.sheet_program.proofs.receive.Tie as tie
+use Rattle.sheet_calls.proofs.CallLaws.{Receiving, receiving-starts, receiving-on, receiving-less, receiving-rest, receives, place-fits}
+use Rattle.sheet_calls.proofs.receive.Statement.{statement}
+use Rattle.sheet_calls.proofs.receive.Tie as tie
 
 abbrev Inv-loop : tie.InvT-loop
 Inv-loop room₀ p₀ room p = Receiving room₀ room p
@@ -32,13 +32,15 @@ loop-again : tie.Need-loop-again Inv-loop μ-loop
 loop-again c =
     let r = c .before .before in
     let from = r .before .before .place .result in
-    let l = r .before .before .before .before .before .loop in
-    receiving-on from (length (l .room) - from) (r .read-once .last .1 .0) (l .inv) (r .read-once .ensures) (search needs)
+    let g = r .before .before .before in
+    let l = g .before .before .loop in
+    receiving-on from (length (l .room) - from) (r .read-once .last .1 .0) _ (l .inv) (g .before .goes-on .ensures) (g .if1 .taken) (r .read-once .ensures) (search needs)
 
 returns : tie.Need-returns Inv-loop μ-loop
 returns c =
     let n = place-fits _ _ _ (c .place2 .ensures) in
-    (n, sym (length-take-le _ _ n))
+    let e = c .before in
+    ((n, sym (length-take-le _ _ n)), receives _ _ (e .before .before .loop .inv) (e .before .goes-on .ensures) (e .if1 .left) (c .place2 .ensures))
 
 pub receive-spec : {M : Type 1} → statement M
 receive-spec =

@@ -1,9 +1,9 @@
 -- `device_at` meets its contract.
 -- Assumes nothing.
-use Rattle.sheet_listing.specs.Listing.{deviceAt}
+use Rattle.sheet_copies.specs.Answers.{deviceAt}
 use borrow.Author.Needs.{needs}
-use Rattle.sheet_listing.proofs.device_at.Statement.{statement}
-use Rattle.sheet_listing.proofs.device_at.Tie as tie
+use Rattle.sheet_copies.proofs.device_at.Statement.{statement}
+use Rattle.sheet_copies.proofs.device_at.Tie as tie
 
 pub device-at-spec : {M : Type 1} → statement M
 unfolding deviceAt

@@ -3,8 +3,8 @@
 use mathlib.Core.Path.{_∙_, ap}
 use borrow.Author.Needs.{needs}
 use Rattle.sheet_io.specs.Progress.{afterOf}
-use Rattle.sheet_program.proofs.write_once.Statement.{statement}
-use Rattle.sheet_program.proofs.write_once.Tie as tie
+use Rattle.sheet_calls.proofs.write_once.Statement.{statement}
+use Rattle.sheet_calls.proofs.write_once.Tie as tie
 
 returns : tie.Need-returns
 returns c = record { count = _; failed = _; passes = _; after = c .settle .ensures ∙ ap (afterOf _) (c .before .written .ensures) }

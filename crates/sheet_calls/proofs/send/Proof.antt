@@ -3,9 +3,9 @@
 use mathlib.Core.Path.{refl}
 use borrow.Author.Needs.{needs}
 use Rattle.sheet_io.specs.Output.{callsLeft}
-use Rattle.sheet_program.proofs.Calls.{Sending, sending-starts, sending-on, sending-ends, sending-less, place-fits, sending-rest}
-use Rattle.sheet_program.proofs.send.Statement.{statement}
-use Rattle.sheet_program.proofs.send.Tie as tie
+use Rattle.sheet_calls.proofs.CallLaws.{Sending, sending-starts, sending-on, sending-ends, sending-less, place-fits, sending-rest}
+use Rattle.sheet_calls.proofs.send.Statement.{statement}
+use Rattle.sheet_calls.proofs.send.Tie as tie
 
 abbrev Inv-loop : tie.InvT-loop
 Inv-loop bytes p₀ p = Sending bytes p
