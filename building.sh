@@ -300,7 +300,7 @@ make_program() {
 
 build_program() {
     stamp=$root/target/stamp/sheet_program
-    RT_JOBS=${RT_JOBS:-4}
+    RT_JOBS=${RT_JOBS:-6}
     export RT_JOBS
     : >"$build_room/began"
     # A program without a stamp was not built to its end; and a program that is missing rt builds only where there is no stamp.

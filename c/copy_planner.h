@@ -2,8 +2,9 @@
  * The copy planner: whether a copy between buffers and textures is allowed, which memory must be initialised before it, and which
  * regions the driver is handed. Link with libcopy_planner.a.
  *
- * No function can be broken by the values it is given: what is wrong with a copy is said by its refusal. A caller owes two things.
- * No pointer is null, not even of an array of length 0; and arrays that a function writes overlap with none of its other arrays.
+ * No function can be broken by the values it is given: what is wrong with a copy is said by its refusal. A caller owes three things.
+ * No pointer is null, not even of an array of length 0; arrays are as long as they are declared; and those that a function writes overlap
+ * with none of its other arrays.
  * Nothing is kept between calls and nothing is allocated, so calls may be made from any thread.
  */
 #ifndef COPY_PLANNER_H

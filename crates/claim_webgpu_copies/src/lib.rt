@@ -28,6 +28,6 @@ pub fn texture_to_texture_agrees()
 {}
 
 // At a small copy of each exception the planner and the standard differ.
-pub fn examples_part()
+pub fn examples_differ()
     ensures { λ _. ⌜ Examples ⌝ }
 {}

@@ -15,7 +15,7 @@ use Rattle.claim_texture_regions.specs.Regions.{depth}
 use Rattle.claim_webgpu_effects.specs.Blocks.{TexelBlock}
 use Rattle.claim_webgpu_effects.specs.Standard.{layerOf, sliceOf, ImageCopied, CopiesImage}
 use Rattle.claim_webgpu_effects.specs.Effects.{dimension}
-use Rattle.claim_webgpu_effects.specs.Mixed.{SlicesIntoLayers, onLayer, LayersIntoSlices, ImagesMissed, TheyPart, Exhaustive}
+use Rattle.claim_webgpu_effects.specs.Mixed.{SlicesIntoLayers, onLayer, LayersIntoSlices, ImagesMissed, TheyDiffer, Exhaustive}
 use Rattle.claim_webgpu_effects.proofs.Figures.{quotient-some, same-block, limit, Image, image-of}
 use Rattle.claim_webgpu_effects.proofs.TextureEffects.{z, shifted, done, carried, src-side, dst-side, image-alike, imageBlock, shifted-is, one, some-named}
 
@@ -130,8 +130,8 @@ images-missed c rs k (inr (es, ed)) from to n pos im g =
     let f = rw ed at e in
     omega (arith, f, l₀)
 
-pub they-part : TheyPart
-they-part c rs k m pw ph pd =
+pub they-differ : TheyDiffer
+they-differ c rs k m pw ph pd =
     let part = some-named c rs k in
     let from = imageBlock (c .src) 1 (part .0 .aspect) 0 0 in
     let to = imageBlock (c .dst) 1 (part .0 .aspect) 0 0 in

@@ -52,8 +52,8 @@ ImagesMissed =
     → (from to : TexelBlock) (k : ℕ) → 0 < k → CopiesImage c k from to → CarriedBy c rs from to → ⊥
 
 -- and there is such a block
-abbrev pub TheyPart : Type 0
-TheyPart =
+abbrev pub TheyDiffer : Type 0
+TheyDiffer =
     (c : Copy) (rs : List TextureCopy) → Accepted c rs → Mixed c → 0 < c .size .width .0 → 0 < c .size .height .0 → 1 < depth c
     → (from : TexelBlock) × (to : TexelBlock) × Copies c from to × (CarriedBy c rs from to → ⊥)
 

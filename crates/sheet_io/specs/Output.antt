@@ -24,7 +24,7 @@ pub record Output (bytes taken : List ℕ) (p : Progress) : Type 0 where
   pub front : taken ≡ take (placeOf (length bytes) p) bytes
   pub whole : goesOn p ≡ false → p .failed ≡ false → taken ≡ bytes
 
--- more than any sequence of calls that can follow
+-- as many calls as can follow, or more
 abbrev pub callsLeft : Progress → ℕ
 callsLeft p = p .left * allTries + p .tries
 

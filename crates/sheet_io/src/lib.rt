@@ -64,7 +64,7 @@ pub fn begin(left: usize) -> Progress
     }
 }
 
-// The lesser is taken off, or all.
+// a less b; 0 where b is more.
 fn take_off(a: usize, b: usize) -> usize
     ensures { λ r. ⌜ r ≡ a - b ⌝ }
 {

@@ -34,7 +34,7 @@ fn is_refused(answer: Planned) -> bool
     }
 }
 
-// Whether one of so many copies is refused, whose lines begin at a place. Where the sheet's texture and buffer lines begin.
+// Whether one of so many copies is refused, whose lines begin at a place; textures and buffers are where the lines of these begin.
 fn any_refused(
     s: &[u8],
     textures: &[usize],

@@ -8,30 +8,41 @@ use native.Mathlib.Omega.{arith}
 use native.Mathlib.Nat.{pos-of-ne-zero}
 use borrow.Author.Tests.{not-true, not-false}
 use lib.ListN.{length, take, drop, length-append, take-append-drop}
+use Rattle.sheet_lines.specs.Lines.{pieceBytes}
 use Rattle.slices.proofs.Puts.{put-take, put-length}
 use Rattle.sheet_listing.specs.declared.Listing.{Listing}
 use Rattle.sheet_listing.specs.Listing.{restOf, listingOf, Fills, Ends}
 use Rattle.sheet_io.specs.declared.Progress.{Progress}
 use Rattle.sheet_io.specs.Progress.{placeOf}
 use Rattle.sheet_io.proofs.OutputProofs.{output-laws}
-use Rattle.sheet_program.specs.declared.SentPart.{SentPart}
 use Rattle.sheet_calls.specs.Calls.{Sends}
 use Rattle.sheet_outcome.specs.declared.Outcome.{Outcome}
 use Rattle.sheet_outcome.specs.Outcome.{statusOf, outcomeOf}
-use Rattle.sheet_program.specs.Program.{PartSent, Delivers, all, stop, on, Lists, Written, EveryListing, StatusFor, no-heading, no-listing, listed}
+use Rattle.sheet_program.specs.Program.{Delivers, all, stop, on, Lists, Written, EveryListing, StatusFor, no-heading, no-listing, listed}
 
 -- ---- one part
 
+-- the next part of a listing was written; it is empty only where nothing is left
+pub record PartSent (s : List ℕ) (st next : Listing) (n : ℕ) (whole : Bool) : Type 0 where
+  pub text : List ℕ
+  pub left : restOf s st ≡ text ++ restOf s next
+  pub count : n ≡ length text
+  pub sent : Sends text whole
+  pub none : n ≡ 0 → restOf s st ≡ []
+
+-- what filling a buffer says of it
+abbrev pub Filled-with : List ℕ → Listing → Listing → List ℕ → List ℕ → ℕ → Type 0
+Filled-with s st next l m n = Fills l m n (restOf s st) (restOf s next) × ((n ≤ length m) × Ends (length l) n (restOf s st))
+
 pub part-sent :
-    (s : List ℕ) (st next : Listing) (l m : List ℕ) (count : ℕ) (whole : Bool) → length l ≡ 65536
-    → Fills l m count (restOf s st) (restOf s next) × ((count ≤ length m) × Ends (length l) count (restOf s st)) → Sends (take count m) whole
-    → PartSent s st (record { whole = whole; count = count; listing = next })
-part-sent s st next l m count whole room h sent =
+    {s : List ℕ} {st next : Listing} {l m : List ℕ} {n : ℕ} {whole : Bool} → pieceBytes ≤ length l → Filled-with s st next l m n → Sends (take n m) whole
+    → PartSent s st next n whole
+part-sent {s} {st} {next} {l} {m} {n} {whole} room h sent =
     let f = h .0 in
-    let n : count ≡ length (f .text) = f .put .next ∙ omega arith in
-    let fits : 0 + length (f .text) ≤ length l = omega (arith, n, h .1 .0, put-length (f .put)) in
-    let e : take count m ≡ f .text = put-take (f .put) fits in
-    record { text = f .text; left = f .left; count = n; sent = subst (λ (t : List ℕ). Sends t whole) e sent; none = λ z. h .1 .1 (omega arith) z }
+    let c : n ≡ length (f .text) = f .put .next ∙ omega arith in
+    let fits : 0 + length (f .text) ≤ length l = omega (arith, c, h .1 .0, put-length (f .put)) in
+    let e : take n m ≡ f .text = put-take (f .put) fits in
+    record { text = f .text; left = f .left; count = c; sent = subst (λ (t : List ℕ). Sends t whole) e sent; none = h .1 .1 room }
 
 -- ---- one after another
 
@@ -43,26 +54,54 @@ module _ (s : List ℕ) (st : Listing) where
   pub lists-start : restOf s st ≡ listingOf s → Listing-on s st
   lists-start e = record { onto = λ taken whole d. record { first = st; start = e; taken = taken; delivers = d } }
 
-  module _ (r : SentPart) (sent : PartSent s st r) where
-    pub part-less : (r .count ≡ 0 → ⊥) → length (restOf s (r .listing)) < length (restOf s st)
-    part-less some =
-        let n : length (restOf s st) ≡ length (sent .text) + length (restOf s (r .listing)) =
-        ap (λ (l : List ℕ). length l) (sent .left) ∙ length-append (sent .text) (restOf s (r .listing)) in
-        omega (arith, n, sent .count, pos-of-ne-zero some)
+module _ {s : List ℕ} {st next : Listing} {n : ℕ} {whole : Bool} (part : PartSent s st next n whole) where
+  pub part-less : (n ≡ 0 → ⊥) → length (restOf s next) < length (restOf s st)
+  part-less some =
+      let k : length (restOf s st) ≡ length (part .text) + length (restOf s next) =
+      ap (λ (l : List ℕ). length l) (part .left) ∙ length-append (part .text) (restOf s next) in
+      omega (arith, k, part .count, pos-of-ne-zero some)
 
-    module _ (i : Listing-on s st) where
-      pub lists-stop : not (r .whole) ≡ true → Lists s false
-      lists-stop e =
-          let w : r .whole ≡ false = not-true (r .whole) e in
-          i .onto _ false (stop (r .listing) (sent .left) (subst (Sends (sent .text)) w (sent .sent)))
+  module _ (i : Listing-on s st) where
+    pub lists-stop : not whole ≡ true → Lists s false
+    lists-stop e = i .onto _ false (stop next (part .left) (subst (Sends (part .text)) (not-true whole e) (part .sent)))
 
-      pub lists-on : not (r .whole) ≡ false → Listing-on s (r .listing)
-      lists-on e =
-          let w : r .whole ≡ true = not-false (r .whole) e in
-          record { onto = λ taken whole d. i .onto _ whole (on (r .listing) (sent .left) (subst (Sends (sent .text)) w (sent .sent)) d) }
+    pub lists-on : not whole ≡ false → Listing-on s next
+    lists-on e =
+        let w : whole ≡ true = not-false whole e in
+        record { onto = λ taken all-of d. i .onto _ all-of (on next (part .left) (subst (Sends (part .text)) w (part .sent)) d) }
 
-      pub lists-end : r .count ≡ 0 → Lists s true
-      lists-end e = i .onto _ true (all (sent .none e))
+    pub lists-end : n ≡ 0 → Lists s true
+    lists-end e = i .onto _ true (all (part .none e))
+
+-- ---- a turn of the loop, over a buffer that keeps its length
+
+pub record Turn (s out₀ out : List ℕ) (st : Listing) : Type 0 where
+  pub listing : Listing-on s st
+  pub same : length out ≡ length out₀
+  pub room : pieceBytes ≤ length out
+
+pub turn-starts : {s out : List ℕ} {st : Listing} → restOf s st ≡ listingOf s → pieceBytes ≤ length out → Turn s out out st
+turn-starts {s} {out} {st} e room = record { listing = lists-start s st e; same = refl; room = room }
+
+module _ {s out₀ out m : List ℕ} {st : Listing} (next : Listing) {n : ℕ} (t : Turn s out₀ out st) (filled : Filled-with s st next out m n) where
+  pub turn-same : length m ≡ length out₀
+  turn-same = put-length (filled .0 .put) ∙ t .same
+
+  module _ {whole : Bool} (sent : Sends (take n m) whole) where
+    part : PartSent s st next n whole
+    part = part-sent (t .room) filled sent
+
+    pub turn-stops : not whole ≡ true → Lists s false
+    turn-stops e = lists-stop part (t .listing) e
+
+    pub turn-ends : n ≡ 0 → Lists s true
+    turn-ends e = lists-end part (t .listing) e
+
+    pub turn-less : (n ≡ 0 → ⊥) → length (restOf s next) < length (restOf s st)
+    turn-less some = part-less part some
+
+    pub turn-goes-on : not whole ≡ false → Turn s out₀ m next
+    turn-goes-on e = record { listing = lists-on part (t .listing) e; same = turn-same; room = omega (arith, t .room, put-length (filled .0 .put)) }
 
 -- ---- what was taken
 

@@ -8,17 +8,8 @@ use Rattle.sheet_listing.specs.declared.Listing.{Listing}
 use Rattle.sheet_listing.specs.Listing.{restOf, listingOf}
 use Rattle.sheet_outcome.specs.Outcome.{statusOf, outcomeOf}
 use Rattle.sheet_calls.specs.Calls.{Sends}
-use Rattle.sheet_program.specs.declared.SentPart.{SentPart}
 
 -- ---- a listing
-
--- the next part of a listing was written; it is empty only where nothing is left
-pub record PartSent (s : List ℕ) (st : Listing) (r : SentPart) : Type 0 where
-  pub text : List ℕ
-  pub left : restOf s st ≡ text ++ restOf s (r .listing)
-  pub count : r .count ≡ length text
-  pub sent : Sends text (r .whole)
-  pub none : r .count ≡ 0 → restOf s st ≡ []
 
 -- parts of a listing, one after another; the first that is not written whole is the last
 pub data Delivers (s : List ℕ) : Listing → List ℕ → Bool → Type 0 where

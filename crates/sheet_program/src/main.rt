@@ -4,8 +4,10 @@
 //
 // DESCRIPTOR is a digit from 3 on: the status is written there in the end, since a program in Rattle cannot exit with one. LABEL comes
 // before the error of a read, HEADING before the listing.
-ghost use Rattle.sheet_program.specs.Program.{PartSent, Lists, StatusFor, EveryListing};
-use sheet_listing::Listing;
+ghost use Prim.Native.Nat.{_≤_};
+ghost use lib.ListN.{length};
+ghost use Rattle.sheet_lines.specs.Lines.{pieceBytes};
+ghost use Rattle.sheet_program.specs.Program.{Lists, StatusFor, EveryListing};
 
 // The status where the listing was not written whole, and where the sheet was not read.
 const NOT_WRITTEN: u8 = 3;
@@ -15,43 +17,23 @@ const NOT_READ: u8 = 4;
 // Room for any path, and what stands around it.
 const LABEL_BYTES: usize = 8192;
 
-// A part of the listing: whether all of it was written, how many bytes it had, and the state after it.
-pub struct SentPart {
-    pub whole: bool,
-    pub count: usize,
-    pub listing: Listing,
-}
-
-// As much of the listing as a buffer holds, written.
-fn write_some(st: Listing, s: &[u8]) -> SentPart
-    ensures { λ r. ⌜ PartSent (now (s .entry)) st r ⌝ }
-{
-    let mut out = [0u8; 65536];
-    let filled = sheet_listing::fill(st, s, &mut out);
-    let count = filled.count;
-    let listing = filled.listing;
-    let whole = sheet_calls::send(&out[..count]);
-    SentPart {
-        whole,
-        count,
-        listing,
-    }
-}
-
-// Writes the listing of a sheet. What cannot be written ends it at once, so that what was written is the listing's beginning.
-fn list(s: &[u8]) -> bool
+// Writes the listing of a sheet, by way of a buffer that has room for a piece. What cannot be written ends it at once, so that what was
+// written is the listing's beginning.
+fn list(s: &[u8], out: &mut [u8]) -> bool
+    requires { ⌜ pieceBytes ≤ length (now out) ⌝ }
     ensures { λ r. ⌜ Lists (now (s .entry)) r ⌝ }
 {
     let mut st = sheet_listing::start(s);
     loop {
-        let part = write_some(st, s);
-        if !part.whole {
+        let filled = sheet_listing::fill(st, s, out);
+        let n = filled.count;
+        let next = filled.listing;
+        if !sheet_calls::send(&out[..n]) {
             return false;
         }
-        if part.count == 0 {
+        if n == 0 {
             return true;
         }
-        let next = part.listing;
         st = next;
     }
 }
@@ -63,7 +45,8 @@ fn list_sheet(s: &[u8], heading: &[u8]) -> u8
     if !sheet_calls::send(heading) {
         return NOT_WRITTEN;
     }
-    if !list(s) {
+    let mut out = [0u8; 65536];
+    if !list(s, &mut out) {
         return NOT_WRITTEN;
     }
     sheet_outcome::status_of(sheet_outcome::find_outcome(s))
