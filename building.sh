@@ -269,8 +269,8 @@ explain_failure() {
     say "all that rt printed is in $build_log"
 }
 
-# Runs the gate, 'rt ci', which begins by removing target/, while nothing is built; what it prints is kept in a file.
-run_gate() { # FILE
+# Runs 'rt ci', all proofs and wrong programs, which begins by removing target/, while nothing is built; what it prints is kept in a file.
+run_ci() { # FILE
     lock_builds || return 1
     open_output tee "$1"
     ended=0

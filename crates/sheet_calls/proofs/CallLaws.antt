@@ -9,10 +9,9 @@ use lib.ListN.{length, take, drop, length-drop}
 use lib.Seq.{length-take-le, take-all}
 use borrow.Rule.Slice.PartMut.{midOf, putMid, same-len-mid}
 use Rattle.sheet_io.specs.declared.Progress.{Progress}
-use Rattle.sheet_io.specs.Progress.{writtenOf, gotOf, startOf, afterOf, goesOn, placeOf}
+use Rattle.sheet_io.specs.Progress.{writtenOf, gotOf, startOf, goesOn, placeOf}
 use Rattle.sheet_io.specs.Output.{Writes, none, call, callsLeft}
 use Rattle.sheet_io.proofs.OutputProofs.{output-laws}
-use Rattle.sheet_calls.specs.declared.Received.{Received}
 use Rattle.sheet_calls.specs.Calls as R
 use Rattle.sheet_calls.specs.Calls.{Wrote, Got, Sends, Receives}
 

@@ -1,9 +1,9 @@
 -- What the calls of a transfer do together: the bytes written are the front of those handed over, and the calls end.
 -- Assumes nothing.
-use mathlib.Core.Path.{_≡_, refl, sym, ap, subst, _∙_}
+use mathlib.Core.Path.{_≡_, refl, sym, ap, _∙_}
 use mathlib.Core.Bool.{Bool, true, false, false≢true, true≢false}
 use mathlib.Core.List.{List, [], _∷_, _++_}
-use Prim.Native.Nat.{ℕ, zero, suc, _+_, _-_, _*_, _≤_, _<_}
+use Prim.Native.Nat.{ℕ, zero, suc, _+_, _-_, _≤_, _<_}
 use native.Mathlib.Omega.{arith}
 use native.Mathlib.Nat.{pos-of-ne-zero}
 use borrow.Author.Tests.{ltb-true, ltb-false, leb-true, leb-false, eqb-true, eqb-false}
@@ -14,7 +14,7 @@ use Rattle.conditions.specs.Conditions.{stop-if}
 use Rattle.sheet_io.specs.declared.Answer.{Answer}
 use Rattle.sheet_io.specs.declared.Answer.the-variants.{Moved, End, Again, Failed}
 use Rattle.sheet_io.specs.declared.Progress.{Progress}
-use Rattle.sheet_io.specs.Progress.{allTries, answerOf, writtenOf, gotOf, startOf, afterNone, afterOf, goesOn, placeOf}
+use Rattle.sheet_io.specs.Progress.{answerOf, writtenOf, gotOf, startOf, afterNone, afterOf, goesOn, placeOf}
 use Rattle.sheet_io.specs.Output.{takes, Writes, none, call, Output, callsLeft, OutputLaws}
 
 -- ---- lists

@@ -1,5 +1,5 @@
 // How bytes go through a descriptor, in numbers: how many are left after each call of `read` or `write`, and whether to call again. The
-// calls themselves are the program's.
+// calls themselves are made by `sheet_calls`.
 ghost use mathlib.Core.Path.{_≡_};
 ghost use Prim.Native.Nat.{_-_};
 ghost use Rattle.sheet_io.specs.Progress.{startOf, answerOf, writtenOf, gotOf, afterNone, afterOf, goesOn, placeOf};

@@ -8,15 +8,15 @@ use native.Mathlib.Omega.{arith}
 use native.Mathlib.Nat.{min-eq-left, min-eq-right}
 use borrow.Author.Tests.{leb-true, leb-false}
 use lib.Dec.{leb}
-use lib.ListN.{length, take, drop, replicate}
-use lib.Seq.{sets, sets-eq, take-all, take-at, length-take-le}
+use lib.ListN.{length, take, replicate}
+use lib.Seq.{sets, take-all, length-take-le}
 use Rattle.records.specs.declared.Device.{Device}
 use Rattle.plan_kinds.specs.declared.Plan.{Plan}
 use Rattle.plan_kinds.specs.Regions.{leftOf}
 use Rattle.sheet_sections.specs.declared.Parts.{Parts}
 use Rattle.sheet_sections.specs.declared.Sheet.the-variants as W
 use Rattle.sheet_sections.specs.Rows.{textures, buffers, placesOf}
-use Rattle.sheet_sections.specs.Sheet.{mostOf, sheetOf}
+use Rattle.sheet_sections.specs.Sheet.{sheetOf}
 use Rattle.sheet_sections.proofs.PlaceLaws.{found, textures-few, buffers-few}
 use Rattle.sheet_copies.specs.Answers.{texturePlaces, bufferPlaces, deviceAt}
 use Rattle.sheet_listing.specs.declared.Lister.{Lister}

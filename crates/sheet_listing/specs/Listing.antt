@@ -1,7 +1,7 @@
 -- The whole listing of a sheet, from its bytes; and the state between one piece of it and the next.
 use mathlib.Core.Path.{_≡_}
 use mathlib.Core.Bool.{false}
-use mathlib.Core.List.{List, [], _∷_, _++_}
+use mathlib.Core.List.{List, [], _++_}
 use Prim.Native.Nat.{ℕ, zero, suc, _-_, _≤_}
 use lib.Dec.{ltb}
 use lib.ListN.{take}
@@ -13,7 +13,6 @@ use Rattle.plan_kinds.specs.declared.Plan.the-variants.{Buffers}
 use Rattle.copy_kinds.specs.declared.Planned.{Planned}
 use Rattle.copy_kinds.specs.declared.Planned.the-variants as P
 use Rattle.plan_kinds.specs.Regions.{leftOf, behindOf}
-use Rattle.sheet_sections.specs.declared.Parts.{Parts}
 use Rattle.sheet_sections.specs.declared.Sheet.{Sheet}
 use Rattle.sheet_sections.specs.declared.Sheet.the-variants as W
 use Rattle.sheet_sections.specs.Rows.{copies, sectionLine}

@@ -6,7 +6,7 @@ ghost use lib.ListN.{length};
 ghost use Rattle.sheet_sections.specs.Sheet.{sheetOf};
 ghost use Rattle.slices.specs.Put.{Put};
 ghost use Rattle.sheet_lines.specs.Lines.{pieceBytes, sheetText};
-ghost use Rattle.sheet_listing.specs.Listing.{noPlan, planAnswered, answerOf, pieceOf, stateWith, nextOf, textLeft, restOf, listingOf, Fills, Ends, Listed};
+ghost use Rattle.sheet_listing.specs.Listing.{noPlan, planAnswered, pieceOf, stateWith, nextOf, textLeft, restOf, listingOf, Fills, Ends, Listed};
 use copy_kinds::Planned;
 use plan_buffers::BufferCopy;
 use plan_buffers::BufferPlan;

@@ -12,13 +12,12 @@ use Rattle.sheet_lines.specs.Lines.{pieceBytes}
 use Rattle.slices.proofs.Puts.{put-take, put-length}
 use Rattle.sheet_listing.specs.declared.Listing.{Listing}
 use Rattle.sheet_listing.specs.Listing.{restOf, listingOf, Fills, Ends}
-use Rattle.sheet_io.specs.declared.Progress.{Progress}
 use Rattle.sheet_io.specs.Progress.{placeOf}
 use Rattle.sheet_io.proofs.OutputProofs.{output-laws}
 use Rattle.sheet_calls.specs.Calls.{Sends}
 use Rattle.sheet_outcome.specs.declared.Outcome.{Outcome}
 use Rattle.sheet_outcome.specs.Outcome.{statusOf, outcomeOf}
-use Rattle.sheet_program.specs.Program.{Delivers, all, stop, on, Lists, Written, EveryListing, StatusFor, no-heading, no-listing, listed}
+use Rattle.sheet_program.specs.Program.{Delivers, all, stop, on, Lists, EveryListing, StatusFor, no-heading, no-listing, listed}
 
 -- ---- one part
 

@@ -3,7 +3,6 @@ use mathlib.Core.Path.{_≡_}
 use mathlib.Core.Bool.{Bool, true, false}
 use mathlib.Core.List.{List, [], _++_}
 use Prim.Native.Nat.{ℕ}
-use lib.ListN.{length}
 use Rattle.sheet_listing.specs.declared.Listing.{Listing}
 use Rattle.sheet_listing.specs.Listing.{restOf, listingOf}
 use Rattle.sheet_outcome.specs.Outcome.{statusOf, outcomeOf}

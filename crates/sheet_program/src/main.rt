@@ -54,7 +54,7 @@ fn list_sheet(s: &[u8], heading: &[u8]) -> u8
 
 fn say_unread(label: &[u8]) {
     if label.len() == 0 {
-        sheet_calls::say_failure(b"standard input");
+        sheet_calls::say_failure(b"plan: standard input");
         return;
     }
     sheet_calls::say_failure(label);
