@@ -35,24 +35,23 @@ static ssize_t allowed(char how, long n, size_t asked) {
     }
 }
 
-ssize_t read(int fd, void *to, size_t count) {
-    if (fd == 0) {
-        ssize_t most = allowed(letter("CALLS_READ", reads), reads, count);
-        reads++;
-        if (most <= 0) return most;
-        count = (size_t)most;
-    }
-    return syscall(SYS_read, fd, to, count);
+/* Counts a call and limits what it is asked. Whether it is still to be made; if not, the answer is in errno and 'count', which is 0 or -1. */
+static int limit(const char *name, long *calls, ssize_t *count) {
+    *count = allowed(letter(name, *calls), *calls, (size_t)*count);
+    ++*calls;
+    return *count > 0;
 }
 
-ssize_t write(int fd, const void *from, size_t count) {
-    if (fd == 1) {
-        ssize_t most = allowed(letter("CALLS_WRITE", writes), writes, count);
-        writes++;
-        if (most <= 0) return most;
-        count = (size_t)most;
-    }
-    return syscall(SYS_write, fd, from, count);
+ssize_t read(int fd, void *to, size_t asked) {
+    ssize_t count = (ssize_t)asked;
+    if (fd == 0 && !limit("CALLS_READ", &reads, &count)) return count;
+    return syscall(SYS_read, fd, to, (size_t)count);
+}
+
+ssize_t write(int fd, const void *from, size_t asked) {
+    ssize_t count = (ssize_t)asked;
+    if (fd == 1 && !limit("CALLS_WRITE", &writes, &count)) return count;
+    return syscall(SYS_write, fd, from, (size_t)count);
 }
 
 int nanosleep(const struct timespec *asked, struct timespec *left) {

@@ -2,6 +2,7 @@
 -- Assumes nothing.
 use mathlib.Core.Path.{sym}
 use Prim.Native.Nat.{_-_}
+use native.Mathlib.Omega.{arith}
 use borrow.Author.Needs.{needs}
 use lib.ListN.{length}
 use lib.Seq.{length-take-le}
@@ -17,7 +18,7 @@ abbrev μ-loop : tie.MeasureT-loop
 μ-loop room₀ p₀ room p = callsLeft p
 
 sub-read-once : tie.Need-sub-read-once Inv-loop μ-loop
-sub-read-once c = place-fits _ _ _ (c .place .ensures)
+sub-read-once c = omega (arith, place-fits _ _ _ (c .place .ensures))
 
 read-once-requires : tie.Need-read-once-requires Inv-loop μ-loop
 read-once-requires c κs = receiving-rest _ (c .before .before .before .before .loop .inv) (c .before .place .ensures)

@@ -1,6 +1,7 @@
 -- `send` meets its contract.
 -- Assumes nothing.
 use mathlib.Core.Path.{refl}
+use native.Mathlib.Omega.{arith}
 use borrow.Author.Needs.{needs}
 use Rattle.sheet_io.specs.Output.{callsLeft}
 use Rattle.sheet_calls.proofs.CallLaws.{Sending, sending-starts, sending-on, sending-ends, sending-less, place-fits, sending-rest}
@@ -17,7 +18,7 @@ loop-holds : tie.Need-loop-holds Inv-loop μ-loop
 loop-holds c = sending-starts _ _ (c .begin .ensures)
 
 sub-write-once : tie.Need-sub-write-once Inv-loop μ-loop
-sub-write-once c = place-fits _ _ _ (c .place .ensures)
+sub-write-once c = omega (arith, place-fits _ _ _ (c .place .ensures))
 
 write-once-requires : tie.Need-write-once-requires Inv-loop μ-loop
 write-once-requires c κs = sending-rest _ (c .before .before .before .before .loop .inv) (c .before .place .ensures)
