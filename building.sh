@@ -320,3 +320,10 @@ build_program() {
     mark_current "$program" sheet_program
     say "the program is proved and built"
 }
+
+# Whether a folder has the sources of wgpu-core that reference/ is built from.
+has_sources() {
+    for source in command/transfer.rs init_tracker/texture.rs device/queue.rs; do
+        [ -f "$1/$source" ] || return 1
+    done
+}

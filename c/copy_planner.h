@@ -1,6 +1,6 @@
 /*
- * The copy planner: whether a copy between buffers and textures is allowed, which memory must be initialised before it, and which
- * regions the driver is handed. Link with libcopy_planner.a.
+ * The copy planner: whether a copy between buffers and textures, or from memory into a texture, is allowed, which of their memory must
+ * be initialised before it, and which regions the driver is handed. Link with libcopy_planner.a.
  *
  * No function can be broken by the values it is given: what is wrong with a copy is said by its refusal. A caller owes three things.
  * No pointer is null, not even of an array of length 0; arrays are as long as they are declared; and those that a function writes overlap
@@ -152,8 +152,8 @@ enum copy_planner_refusal {
     COPY_PLANNER_SAME_SOURCE_DESTINATION_BUFFER = 4,
     COPY_PLANNER_MISSING_BUFFER_USAGE = 5,            /* side */
     COPY_PLANNER_MISSING_TEXTURE_USAGE = 6,           /* side */
-    COPY_PLANNER_BUFFER_START_OFFSET_OVERRUN = 7,     /* side, start, limit: the buffer's size */
-    COPY_PLANNER_BUFFER_END_OFFSET_OVERRUN = 8,       /* side, start, end: the copy's bytes, limit: the buffer's size */
+    COPY_PLANNER_BUFFER_START_OFFSET_OVERRUN = 7,     /* side, start, limit: the size of the buffer or the block of memory */
+    COPY_PLANNER_BUFFER_END_OFFSET_OVERRUN = 8,       /* side, start, end: the copy's bytes, limit: as of 7 */
     COPY_PLANNER_TEXTURE_OVERRUN = 9,                 /* all; the end is wrapped to 32 bits */
     COPY_PLANNER_UNSUPPORTED_PARTIAL_TRANSFER = 10,   /* all; the end is wrapped to 32 bits */
     COPY_PLANNER_INVALID_COPY_WITHIN_SAME_TEXTURE = 11, /* start, end: the two z, limit: how many layers */
@@ -219,7 +219,7 @@ enum copy_planner_range_kind {
 };
 
 /*
- * The four copies. Each returns 0 for an accepted copy, with its plan and its ranges, else the number of its refusal. Then the plan
+ * The five copies. Each returns 0 for an accepted copy, with its plan and its ranges, else the number of its refusal. Then the plan
  * has no regions left, and after that word stand the refusal's details; there are no ranges. Every word of plan and ranges is
  * written, and none is read before.
  *
@@ -266,6 +266,26 @@ uint32_t copy_planner_texture_to_buffer(
     bool depth_texture_and_buffer_copies,
     uint64_t buffer_size,
     uint32_t buffer_usage,
+    uint64_t offset,
+    bool has_bytes_per_row,
+    uint32_t bytes_per_row,
+    bool has_rows_per_image,
+    uint32_t rows_per_image,
+    const copy_planner_texture *texture,
+    const copy_planner_view *view,
+    const copy_planner_extent *size,
+    uint64_t plan[COPY_PLANNER_BUFFER_TEXTURE_PLAN_WORDS],
+    uint64_t ranges[COPY_PLANNER_BUFFER_TEXTURE_RANGES_WORDS]);
+
+/*
+ * From a block of memory, of any length in bytes, without a buffer. The memory itself is not read. The block is the source and is
+ * checked as a buffer is, but it has no usage, and neither its offset nor bytes per row need be aligned: 3, 5, 14 and 20 are never
+ * given. Regions have offsets in the block.
+ * Ranges: as for a copy from a buffer, but the three of bytes are none.
+ */
+uint32_t copy_planner_memory_to_texture(
+    bool depth_texture_and_buffer_copies,
+    uint64_t length,
     uint64_t offset,
     bool has_bytes_per_row,
     uint32_t bytes_per_row,

@@ -1,4 +1,7 @@
-/* Plans an upload of two layers and a copy that is refused, and lists the job sheet on standard input if any argument is given. */
+/*
+ * Plans an upload of two layers, a copy that is refused and a write from memory, and lists the job sheet on standard input if any
+ * argument is given.
+ */
 #include "copy_planner.h"
 
 #include <inttypes.h>
@@ -12,6 +15,12 @@
 #define BUFFER_INDEX 0
 #define TEXTURE_INDEX 0
 #define MIP_LEVEL 0
+
+static const copy_planner_texture texture = {
+    COPY_PLANNER_FORMAT_RGBA8_UNORM, COPY_PLANNER_DIMENSION_2D, 8, 8, 2, 1, 1,
+    COPY_PLANNER_TEXTURE_USAGE_COPY_SRC | COPY_PLANNER_TEXTURE_USAGE_COPY_DST};
+
+static const copy_planner_view view = {MIP_LEVEL, 0, 0, 0, COPY_PLANNER_ASPECT_ALL};
 
 static void print_line(const char *word, const uint64_t *numbers, size_t count)
 {
@@ -88,23 +97,39 @@ static void print_refusal(uint32_t number, const uint64_t plan[COPY_PLANNER_BUFF
     print_line(" refused", numbers, 6);
 }
 
-/* Copies so many layers from a buffer into a texture of two. */
-static void print_upload(unsigned copy, uint32_t layers)
+static void print_answer(
+    unsigned copy,
+    uint32_t refused,
+    uint64_t plan[COPY_PLANNER_BUFFER_TEXTURE_PLAN_WORDS],
+    const uint64_t ranges[COPY_PLANNER_BUFFER_TEXTURE_RANGES_WORDS])
 {
-    copy_planner_texture texture = {
-        COPY_PLANNER_FORMAT_RGBA8_UNORM, COPY_PLANNER_DIMENSION_2D, 8, 8, 2, 1, 1,
-        COPY_PLANNER_TEXTURE_USAGE_COPY_SRC | COPY_PLANNER_TEXTURE_USAGE_COPY_DST};
-    copy_planner_view view = {MIP_LEVEL, 0, 0, 0, COPY_PLANNER_ASPECT_ALL};
-    copy_planner_extent size = {8, 8, layers};
-    uint64_t plan[COPY_PLANNER_BUFFER_TEXTURE_PLAN_WORDS];
-    uint64_t ranges[COPY_PLANNER_BUFFER_TEXTURE_RANGES_WORDS];
-    uint32_t refused = copy_planner_buffer_to_texture(
-        true, 4096, COPY_PLANNER_BUFFER_USAGE_COPY_SRC, 0, true, 256, true, 8, &texture, &view, &size, plan, ranges);
     printf("copy %u", copy);
     if (refused == COPY_PLANNER_ACCEPTED)
         print_plan(plan, ranges);
     else
         print_refusal(refused, plan);
+}
+
+/* Copies so many layers from a buffer into the texture, which has two. */
+static void print_upload(unsigned copy, uint32_t layers)
+{
+    copy_planner_extent size = {8, 8, layers};
+    uint64_t plan[COPY_PLANNER_BUFFER_TEXTURE_PLAN_WORDS];
+    uint64_t ranges[COPY_PLANNER_BUFFER_TEXTURE_RANGES_WORDS];
+    uint32_t refused = copy_planner_buffer_to_texture(
+        true, 4096, COPY_PLANNER_BUFFER_USAGE_COPY_SRC, 0, true, 256, true, 8, &texture, &view, &size, plan, ranges);
+    print_answer(copy, refused, plan, ranges);
+}
+
+/* Writes both layers from the 513 bytes of a block, from byte 1 on: no offset and no row need be aligned there. */
+static void print_memory_write(unsigned copy)
+{
+    copy_planner_extent size = {8, 8, 2};
+    uint64_t plan[COPY_PLANNER_BUFFER_TEXTURE_PLAN_WORDS];
+    uint64_t ranges[COPY_PLANNER_BUFFER_TEXTURE_RANGES_WORDS];
+    uint32_t refused = copy_planner_memory_to_texture(
+        true, 513, 1, true, 32, true, 8, &texture, &view, &size, plan, ranges);
+    print_answer(copy, refused, plan, ranges);
 }
 
 /* The first call says how long the listing is. */
@@ -132,6 +157,7 @@ int main(int argc, char **argv)
     (void)argv;
     print_upload(0, 2);
     print_upload(1, 3);
+    print_memory_write(2);
     int status = argc > 1 ? list_standard_input() : EXIT_SUCCESS;
     /* What is still in the buffer may find the disk full. */
     if (fflush(stdout) != 0 || ferror(stdout)) {

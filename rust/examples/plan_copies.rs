@@ -1,4 +1,4 @@
-//! Plans an upload of two layers, a copy that is refused, and the copies of a job sheet.
+//! Plans an upload of two layers, a copy that is refused, a write from memory, and the copies of a job sheet.
 
 use copy_planner::*;
 
@@ -41,6 +41,9 @@ fn main() -> Result<(), TransferError> {
         Err(why) => println!("refused with {}: {why}", why.number()),
     }
 
+    // In memory, without a buffer, they may follow each other.
+    print_upload(&write(512, Some(32), &texture)?);
+
     print!("{}", String::from_utf8_lossy(&list_sheet(SHEET.as_bytes())));
     Ok(())
 }
@@ -53,19 +56,42 @@ fn upload(
 ) -> Result<Plan<BufferTextureCopy>, TransferError> {
     let src = TexelCopyBufferInfo {
         buffer,
-        layout: TexelCopyBufferLayout {
-            offset: 0,
-            bytes_per_row,
-            rows_per_image: Some(texture.size.height),
-        },
+        layout: layout(bytes_per_row, texture),
     };
-    let dst = TexelCopyTextureInfo {
+    copy_buffer_to_texture(Device::default(), src, whole(texture), texture.size)
+}
+
+/// Plans all layers of the texture, from the start of so many bytes of memory on.
+fn write(
+    data_len: u64,
+    bytes_per_row: Option<u32>,
+    texture: &Texture,
+) -> Result<Plan<BufferTextureCopy>, TransferError> {
+    let rows = layout(bytes_per_row, texture);
+    write_texture(
+        Device::default(),
+        whole(texture),
+        data_len,
+        rows,
+        texture.size,
+    )
+}
+
+fn layout(bytes_per_row: Option<u32>, texture: &Texture) -> TexelCopyBufferLayout {
+    TexelCopyBufferLayout {
+        offset: 0,
+        bytes_per_row,
+        rows_per_image: Some(texture.size.height),
+    }
+}
+
+fn whole(texture: &Texture) -> TexelCopyTextureInfo<'_> {
+    TexelCopyTextureInfo {
         texture,
         mip_level: 0,
         origin: Origin3d::ZERO,
         aspect: TextureAspect::All,
-    };
-    copy_buffer_to_texture(Device::default(), src, dst, texture.size)
+    }
 }
 
 fn print_upload(plan: &Plan<BufferTextureCopy>) {

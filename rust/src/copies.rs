@@ -1,10 +1,12 @@
-//! The four copies.
+//! The five copies.
 
 use crate::error::TransferError;
 use crate::ffi;
 use crate::plan::{Plan, PlanRoom, Resource};
 use crate::regions::{BufferCopy, BufferTextureCopy, Region, TextureCopy};
-use crate::resources::{Buffer, Device, Extent3d, TexelCopyBufferInfo, TexelCopyTextureInfo};
+use crate::resources::{
+    Buffer, Device, Extent3d, TexelCopyBufferInfo, TexelCopyBufferLayout, TexelCopyTextureInfo,
+};
 
 /// Plans a copy between two buffers. A size left out is what the source has from its offset on.
 ///
@@ -51,6 +53,27 @@ pub fn copy_texture_to_buffer(
     size: Extent3d,
 ) -> Result<Plan<BufferTextureCopy>, TransferError> {
     planned(|room| room.copy_texture_to_buffer(device, src, dst, size))
+}
+
+/// Plans a write straight from a block of memory into a texture, without a buffer. The planner reads none of the block's bytes:
+/// `data_len` says how many there are, and has no bound.
+///
+/// The copy is checked as [`copy_buffer_to_texture`] is, with the block as its source, but neither the layout's offset nor its
+/// bytes per row need be aligned. Two things are not wgpu-core's: the texture's usage is checked after its range and its aspect,
+/// not before; and regions lie in the block itself, not in a staging buffer filled from it.
+///
+/// # Errors
+///
+/// The first rule that the copy breaks.
+#[inline]
+pub fn write_texture(
+    device: Device,
+    destination: TexelCopyTextureInfo<'_>,
+    data_len: u64,
+    data_layout: TexelCopyBufferLayout,
+    size: Extent3d,
+) -> Result<Plan<BufferTextureCopy>, TransferError> {
+    planned(|room| room.write_texture(device, destination, data_len, data_layout, size))
 }
 
 /// Plans a copy between two textures, or within one: textures are one where their ids are.
@@ -148,6 +171,47 @@ impl PlanRoom<BufferTextureCopy> {
         size: Extent3d,
     ) -> Result<&mut Plan<BufferTextureCopy>, TransferError> {
         self.copy_buffer_and_texture(ffi::copy_planner_texture_to_buffer, device, dst, src, size)
+    }
+
+    /// [`write_texture`], with the plan written here.
+    ///
+    /// # Errors
+    ///
+    /// The first rule that the copy breaks.
+    #[inline]
+    pub fn write_texture(
+        &mut self,
+        device: Device,
+        destination: TexelCopyTextureInfo<'_>,
+        data_len: u64,
+        data_layout: TexelCopyBufferLayout,
+        size: Extent3d,
+    ) -> Result<&mut Plan<BufferTextureCopy>, TransferError> {
+        // SAFETY: the call writes every word of `plan` and `ranges`.
+        unsafe {
+            self.plan(
+                [Resource::from(&destination), Resource::Memory],
+                |plan, ranges| {
+                    ffi::copy_planner_memory_to_texture(
+                        device.depth_texture_and_buffer_copies,
+                        data_len,
+                        data_layout.offset,
+                        data_layout.bytes_per_row.is_some(),
+                        data_layout.bytes_per_row.unwrap_or(0),
+                        data_layout.rows_per_image.is_some(),
+                        data_layout.rows_per_image.unwrap_or(0),
+                        destination.texture,
+                        destination.view(),
+                        &size,
+                        plan,
+                        ranges,
+                    )
+                },
+                |number, details| {
+                    TransferError::of(number, details, Some((&destination, &destination)))
+                },
+            )
+        }
     }
 
     /// The copy that `function` plans, one of two that differ in nothing else.

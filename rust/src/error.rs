@@ -122,29 +122,29 @@ refusals! {
     }
     "the {side} texture has no usage that lets it be a copy's {side}";
 
-    /// The copy starts past the end of a buffer.
+    /// The copy starts past the end of a buffer, or of the block of memory.
     7 BufferStartOffsetOverrun {
         /// Where the copy starts, in bytes.
         start_offset: u64,
-        /// The buffer's bytes.
+        /// The bytes of the buffer or the block.
         buffer_size: u64,
-        /// The buffer's side.
+        /// The buffer's side; the source's for a block.
         side: CopySide,
     }
-    "the copy starts at byte {start_offset} of the {side} buffer, which has {buffer_size} bytes";
+    "the copy starts at byte {start_offset} of its {side}, which has {buffer_size} bytes";
 
-    /// The copy ends past the end of a buffer.
+    /// The copy ends past the end of a buffer, or of the block of memory.
     8 BufferEndOffsetOverrun {
         /// Where the copy starts, in bytes.
         start_offset: u64,
         /// The copy's bytes.
         size: u64,
-        /// The buffer's bytes.
+        /// The bytes of the buffer or the block.
         buffer_size: u64,
-        /// The buffer's side.
+        /// The buffer's side; the source's for a block.
         side: CopySide,
     }
-    "{size} bytes from byte {start_offset} on do not fit into the {side} buffer of {buffer_size} bytes";
+    "{size} bytes from byte {start_offset} on do not fit into the copy's {side}, which has {buffer_size} bytes";
 
     /// The copy leaves a texture's level, or its plane.
     9 TextureOverrun {
@@ -215,7 +215,7 @@ refusals! {
     }
     "level {level} does not exist in a texture of {total} level(s)";
 
-    /// A buffer's offset is no multiple of 4, or of a block's bytes.
+    /// A buffer's offset is no multiple of 4, or of a texel block's bytes. Not asked of a block of memory.
     14 UnalignedBufferOffset(offset: u64)
     "offset {offset} is unaligned for this copy";
 
@@ -239,7 +239,7 @@ refusals! {
     19 UnalignedCopyOriginY
     "the origin's y is not where a block starts";
 
-    /// The bytes per row are no multiple of 256.
+    /// The bytes per row in a buffer are no multiple of 256. Not asked of a block of memory.
     20 UnalignedBytesPerRow
     "the bytes per row are not a multiple of 256";
 
@@ -259,9 +259,9 @@ refusals! {
     24 InvalidRowsPerImage
     "an image of the copy has more rows than the rows per image";
 
-    /// The bytes that the copy spans in the buffer are 2^64 or more.
+    /// The bytes that the copy spans in the buffer or the block of memory are 2^64 or more.
     25 SizeOverflow
-    "the copy spans more bytes of the buffer than 64 bits can count";
+    "the copy spans more bytes than 64 bits can count";
 
     /// A copy between textures leaves out an aspect of its source.
     26 CopySrcMissingAspects
@@ -271,9 +271,9 @@ refusals! {
     27 CopyDstMissingAspects
     "a copy between textures leaves out an aspect of its destination";
 
-    /// A copy between a buffer and a texture chooses several aspects.
+    /// A copy between a buffer and a texture, or from memory, chooses several aspects.
     28 CopyAspectNotOne
-    "a copy between a buffer and a texture chooses more than one aspect";
+    "a copy with a buffer or from memory chooses more than one aspect";
 
     /// Textures of this format are not copied into buffers.
     29 CopyFromForbiddenTextureFormat(format: TextureFormat)
@@ -288,18 +288,18 @@ refusals! {
     }
     "{aspect:?} of {format:?} is not copied into buffers";
 
-    /// Textures of this format are not copied from buffers.
+    /// Textures of this format are copied neither from buffers nor from memory.
     31 CopyToForbiddenTextureFormat(format: TextureFormat)
-    "{format:?} is not copied from buffers";
+    "{format:?} is copied neither from buffers nor from memory";
 
-    /// This aspect of the format is not copied from buffers.
+    /// This aspect of the format is copied neither from buffers nor from memory.
     32 CopyToForbiddenTextureFormatAspect {
         /// The texture's format.
         format: TextureFormat,
         /// The aspect asked for.
         aspect: TextureAspect,
     }
-    "{aspect:?} of {format:?} is not copied from buffers";
+    "{aspect:?} of {format:?} is copied neither from buffers nor from memory";
 
     /// The formats differ in more than srgb, and the copy does not take one plane out.
     33 TextureFormatsNotCopyCompatible {
@@ -314,12 +314,12 @@ refusals! {
     34 MissingDownlevelFlags(lacking: DownlevelFlags)
     "the device lacks {lacking:?}";
 
-    /// A multisampled texture is not copied from or into a buffer.
+    /// A multisampled texture is copied neither with a buffer nor from memory.
     35 InvalidSampleCount {
         /// The texture's samples.
         sample_count: u32,
     }
-    "a texture with {sample_count} samples is copied neither from nor into buffers";
+    "a texture with {sample_count} samples is copied neither with buffers nor from memory";
 
     /// The textures differ in their samples.
     36 SampleCountNotEqual {
@@ -347,7 +347,7 @@ refusals! {
 
 impl Error for TransferError {}
 
-/// The textures of a copy. Of a copy between a texture and a buffer, the one texture stands on both sides.
+/// The textures of a copy. Of a copy with one texture, it stands on both sides.
 pub(crate) type Textures<'a> = (&'a TexelCopyTextureInfo<'a>, &'a TexelCopyTextureInfo<'a>);
 
 impl TransferError {

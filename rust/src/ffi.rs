@@ -96,6 +96,21 @@ extern "C" {
         ranges: &mut MaybeUninit<[RangeRow; 4]>,
     ) -> u32;
 
+    pub(crate) fn copy_planner_memory_to_texture(
+        depth_texture_and_buffer_copies: bool,
+        length: u64,
+        offset: u64,
+        has_bytes_per_row: bool,
+        bytes_per_row: u32,
+        has_rows_per_image: bool,
+        rows_per_image: u32,
+        texture: &Texture,
+        view: &TextureView,
+        size: &Extent3d,
+        plan: &mut MaybeUninit<BufferTexturePlan>,
+        ranges: &mut MaybeUninit<[RangeRow; 4]>,
+    ) -> u32;
+
     pub(crate) fn copy_planner_texture_to_texture(
         same_texture: bool,
         src: &Texture,

@@ -1,5 +1,5 @@
-//! Plans copies between buffers and textures: whether a copy is allowed, which memory must be initialised before it, and which
-//! regions the driver is handed.
+//! Plans copies between buffers and textures, and from memory into textures: whether a copy is allowed, which memory must be
+//! initialised before it, and which regions the driver is handed.
 //!
 //! The rules are those of wgpu-core 30.0.1, within the bounds that [`Buffer`] and [`Texture`] give for their fields. The planner
 //! itself is a static library, each function of which is proved to return what its definition says; this crate links it and gives
@@ -54,6 +54,11 @@
 //! let three = Extent3d { depth_or_array_layers: 3, ..texture.size };
 //! let refused = copy_buffer_to_texture(device, src, dst, three).unwrap_err();
 //! assert!(matches!(refused, TransferError::TextureOverrun { end_offset: 3, texture_size: 2, .. }));
+//!
+//! // From memory, without a buffer, rows may follow each other without gaps.
+//! let layout = TexelCopyBufferLayout { bytes_per_row: Some(32), ..src.layout };
+//! let plan = write_texture(device, dst, 512, layout, texture.size)?;
+//! assert_eq!(plan.ranges().count(), 1);
 //! # Ok::<(), TransferError>(())
 //! ```
 
@@ -71,6 +76,7 @@ mod sheet;
 
 pub use copies::{
     copy_buffer_to_buffer, copy_buffer_to_texture, copy_texture_to_buffer, copy_texture_to_texture,
+    write_texture,
 };
 pub use error::{CopySide, DownlevelFlags, TextureErrorDimension, TransferError};
 pub use flags::{BufferUsages, FormatAspects, TextureUsages};

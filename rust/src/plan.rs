@@ -48,7 +48,7 @@ impl<R: Region> Plan<R> {
         self.regions_left() * R::NUMBERS
     }
 
-    /// The bytes that the buffers were checked for; 0 between textures.
+    /// The bytes that the buffers, or the block of memory, were checked for; 0 between textures.
     #[inline]
     pub fn bytes_checked(&self) -> u64 {
         R::BYTES_CHECKED.map_or(0, |word| self.0.words.as_ref()[word])
@@ -214,8 +214,15 @@ impl<R: Region> FusedIterator for Regions<R> {}
 /// The resource that a row of ranges is about.
 #[derive(Clone, Copy, Debug, PartialEq, Eq)]
 pub(crate) enum Resource {
-    Texture { id: u32, mip_level: u32 },
-    Buffer { id: u32 },
+    Texture {
+        id: u32,
+        mip_level: u32,
+    },
+    Buffer {
+        id: u32,
+    },
+    /// A block of memory, of which there are no ranges: it is not the device's.
+    Memory,
 }
 
 impl From<&Buffer> for Resource {
@@ -274,7 +281,7 @@ pub enum InitRange {
 }
 
 impl InitRange {
-    /// The range of a row of words; none where its kind is 0.
+    /// The range of a row of words; none where its kind is 0, nor of a block of memory.
     #[inline]
     fn from_row(resource: Resource, &[kind, start, end]: &RangeRow) -> Option<Self> {
         let kind = match kind {
@@ -294,6 +301,7 @@ impl InitRange {
                 range: start..end,
                 kind,
             },
+            Resource::Memory => return None,
         })
     }
 }

@@ -69,10 +69,10 @@ pub struct BufferCopy {
     pub size: u64,
 }
 
-/// A region copied between a buffer and a texture, either way. A plan has one for each layer.
+/// A region copied between a buffer and a texture, either way, or from memory into a texture. A plan has one for each layer.
 #[derive(Clone, Copy, Debug, PartialEq, Eq, Hash)]
 pub struct BufferTextureCopy {
-    /// Where it lies in the buffer.
+    /// Where it lies in the buffer, or in the block of memory.
     pub buffer_layout: TexelCopyBufferLayout,
     /// Where it starts in the texture.
     pub texture_base: TextureCopyBase,
@@ -109,7 +109,7 @@ pub(crate) mod sealed {
 
         type Numbers;
 
-        /// The word of a plan that says how many bytes of buffers were checked.
+        /// The word of a plan that says how many bytes of buffers or memory were checked.
         const BYTES_CHECKED: Option<usize>;
 
         const NEXT: Next<Self::Words, Self::Numbers>;

@@ -156,7 +156,7 @@ pub enum TextureAspect {
 /// What a device can do, as far as copies ask. The default can do neither.
 #[derive(Clone, Copy, Debug, Default, PartialEq, Eq, Hash)]
 pub struct Device {
-    /// Copies between buffers and depth-stencil textures.
+    /// Copies between buffers and depth-stencil textures, and from memory into these.
     pub depth_texture_and_buffer_copies: bool,
     /// Copies of index buffers from and to buffers of other uses.
     pub unrestricted_index_buffer: bool,
@@ -196,7 +196,7 @@ pub struct Texture {
     pub id: u32,
 }
 
-/// How rows and images lie in a buffer.
+/// How rows and images lie in a buffer or a block of memory.
 #[derive(Clone, Copy, Debug, Default, PartialEq, Eq, Hash)]
 pub struct TexelCopyBufferLayout {
     /// Where the first row starts, in bytes.

@@ -87,6 +87,8 @@ struct Job {
     indices: [usize; 2],
     offsets: [u64; 2],
     bytes: Option<u64>,
+    /// The length of a block of memory.
+    length: u64,
     layout: TexelCopyBufferLayout,
     views: [View; 2],
     size: Extent3d,
@@ -106,6 +108,7 @@ impl Job {
             indices: random.mostly(&[[0, 1], [1, 0], [0, 0]]),
             offsets,
             bytes: random.pick(&[None, Some(0), Some(8), Some(60), Some(1 << 40)]),
+            length: random.mostly(&[1 << 16, 64, 9, 1 << 40, u64::MAX]),
             layout: TexelCopyBufferLayout {
                 offset: offsets[0],
                 bytes_per_row: random.mostly(&[Some(256), None, Some(64), Some(u32::MAX - 255)]),
@@ -152,6 +155,14 @@ impl Job {
         )
     }
 
+    /// The fields after the buffer, or after the length, of a copy with one texture.
+    fn layout_and_view(&self) -> String {
+        let row = or_absent(self.layout.bytes_per_row);
+        let rows = or_absent(self.layout.rows_per_image);
+        let (view, size) = (self.views[0].fields(), size_fields(self.size));
+        format!("{} {row} {rows} {view} {size}", self.layout.offset)
+    }
+
     fn buffer_and_texture(&self) -> [bool; 2] {
         let [index, _] = self.indices;
         let bytes = TexelCopyBufferInfo {
@@ -159,14 +170,7 @@ impl Job {
             layout: self.layout,
         };
         let texels = self.views[0].of(&self.textures);
-        let row = or_absent(self.layout.bytes_per_row);
-        let rows = or_absent(self.layout.rows_per_image);
-        let place = format!("{index} {} {row} {rows}", self.layout.offset);
-        let fields = format!(
-            "{place} {} {}",
-            self.views[0].fields(),
-            size_fields(self.size)
-        );
+        let fields = format!("{index} {}", self.layout_and_view());
         [
             self.check(
                 &format!("2 {fields}"),
@@ -177,6 +181,15 @@ impl Job {
                 copy_texture_to_buffer(self.device, texels, bytes, self.size),
             ),
         ]
+    }
+
+    fn memory_to_texture(&self) -> bool {
+        let Self { length, layout, .. } = *self;
+        let texels = self.views[0].of(&self.textures);
+        self.check(
+            &format!("5 {length} {}", self.layout_and_view()),
+            write_texture(self.device, texels, length, layout, self.size),
+        )
     }
 
     fn texture_to_texture(&self) -> bool {
@@ -233,7 +246,7 @@ fn or_absent<T: ToString>(value: Option<T>) -> String {
 #[test]
 fn functions_and_sheets_agree() {
     let mut random = Random(1);
-    let mut accepted = [0; 4];
+    let mut accepted = [0; 5];
     for _ in 0..JOBS {
         let job = Job::random(&mut random);
         let [upload, download] = job.buffer_and_texture();
@@ -242,6 +255,7 @@ fn functions_and_sheets_agree() {
             upload,
             download,
             job.texture_to_texture(),
+            job.memory_to_texture(),
         ];
         for (count, is_accepted) in accepted.iter_mut().zip(answers) {
             *count += usize::from(is_accepted);

@@ -5,7 +5,7 @@ mod common;
 use common::*;
 use copy_planner::*;
 use MemoryInitKind::{ImplicitlyInitialized, NeedsInitializedMemory};
-use TextureDimension::D2;
+use TextureDimension::{D2, D3};
 use TextureFormat::{Depth32FloatStencil8, R8Unorm, Rgba8Unorm};
 
 /// What stands in a slice before regions are written into it.
@@ -17,6 +17,14 @@ fn upload(layers: u32) -> Plan<BufferTextureCopy> {
     let texture = texture(6, Rgba8Unorm, D2, [8, 8, 256]);
     let src = strided(&buffer, Some(256), Some(8));
     copy_buffer_to_texture(DEVICE, src, from_start(&texture), extent([8, 8, layers])).unwrap()
+}
+
+/// So many layers from memory into the same texture, without gaps.
+fn write(layers: u32) -> Plan<BufferTextureCopy> {
+    let texture = texture(6, Rgba8Unorm, D2, [8, 8, 256]);
+    let (length, rows) = (1 << 16, layout(0, Some(32), Some(8)));
+    let size = extent([8, 8, layers]);
+    write_texture(DEVICE, from_start(&texture), length, rows, size).unwrap()
 }
 
 /// Both aspects of so many layers between textures, a region each.
@@ -61,6 +69,31 @@ fn regions_by_their_names() {
     assert_eq!(plan, behind);
 }
 
+/// Every figure of a write from memory is another, and each comes out in its place.
+#[test]
+fn regions_of_memory() {
+    let texture = Texture {
+        mip_level_count: 2,
+        ..texture(6, Rgba8Unorm, D3, [32, 32, 32])
+    };
+    let dst = TexelCopyTextureInfo {
+        mip_level: 1,
+        origin: Origin3d { x: 2, y: 3, z: 4 },
+        ..from_start(&texture)
+    };
+    let size = extent([5, 6, 7]);
+    let answer = write_texture(DEVICE, dst, 2_500, layout(9, Some(43), Some(8)), size);
+    assert_eq!(
+        listed(&answer),
+        "ok 1 1 2299\nt 6 1 0 1 1\nr 9 43 8 1 0 2 3 4 1 5 6 7\n"
+    );
+    let dense = write_texture(DEVICE, dst, 29, layout(9, None, None), extent([5, 1, 1]));
+    assert_eq!(
+        listed(&dense),
+        "ok 1 1 20\nt 6 1 0 1 1\nr 9 - - 1 0 2 3 4 1 5 1 1\n"
+    );
+}
+
 #[test]
 fn depth_and_stencil_apart() {
     let aspects: Vec<[FormatAspects; 2]> = between_textures(2)
@@ -92,6 +125,8 @@ fn check_counts<R: Numbered>(plan: &Plan<R>, count: usize) {
 fn counts_of_regions() {
     check_counts(&upload(256), 256);
     check_counts(&upload(0), 0);
+    check_counts(&write(256), 256);
+    check_counts(&write(0), 0);
     check_counts(&between_textures(8), 16);
     check_counts(&between_textures(0), 0);
     check_counts(&between_buffers(56), 1);
@@ -116,6 +151,7 @@ fn check_written<R: Numbered>(mut plan: Plan<R>, taken: usize) {
 fn written_regions() {
     for taken in [0, 1, 3] {
         check_written(upload(3), taken);
+        check_written(write(3), taken);
         check_written(between_textures(3), taken);
         check_written(between_buffers(56), taken);
     }
@@ -143,6 +179,7 @@ fn check_short<R: Numbered>(mut plan: Plan<R>) {
 #[test]
 fn slices_too_short() {
     check_short(upload(2));
+    check_short(write(2));
     check_short(between_textures(2));
     check_short(between_buffers(56));
 }
@@ -164,6 +201,22 @@ fn rooms() {
     );
 }
 
+/// What a copy from a buffer left behind does not show in a write from memory, nor the other way round.
+#[test]
+fn rooms_for_uploads_of_both_kinds() {
+    let (buffer, texture) = (buffer(5, 4_096), texture(6, Rgba8Unorm, D2, [8, 8, 2]));
+    let (src, dst) = (strided(&buffer, Some(256), Some(8)), from_start(&texture));
+    let mut room = PlanRoom::new();
+    for length in [4_096, 100, 3_872] {
+        let planned = copy_buffer_to_texture(DEVICE, src, dst, texture.size);
+        let in_room = room.copy_buffer_to_texture(DEVICE, src, dst, texture.size);
+        assert_eq!(in_room.cloned(), planned);
+        let planned = write_texture(DEVICE, dst, length, src.layout, texture.size);
+        let in_room = room.write_texture(DEVICE, dst, length, src.layout, texture.size);
+        assert_eq!(in_room.cloned(), planned);
+    }
+}
+
 #[test]
 fn ranges_by_their_names() {
     let ranges: Vec<InitRange> = upload(2).ranges().collect();
@@ -180,6 +233,48 @@ fn ranges_by_their_names() {
     };
     assert_eq!(ranges, [texture, buffer]);
     assert_eq!(upload(0).ranges().next(), None);
+}
+
+/// Of a write from memory, the texture's range is all.
+#[test]
+fn ranges_of_a_write() {
+    let texture = texture(6, R8Unorm, D2, [8, 8, 4]);
+    let ranges = |x, width| -> Vec<InitRange> {
+        let dst = TexelCopyTextureInfo {
+            origin: Origin3d { x, y: 0, z: 1 },
+            ..from_start(&texture)
+        };
+        let (rows, size) = (layout(3, Some(9), Some(8)), extent([width, 8, 2]));
+        let plan = write_texture(DEVICE, dst, 146, rows, size).unwrap();
+        plan.ranges().collect()
+    };
+    let layers = |kind| InitRange::Texture {
+        id: 6,
+        mip_level: 0,
+        layers: 1..3,
+        kind,
+    };
+    assert_eq!(ranges(0, 8), [layers(ImplicitlyInitialized)]);
+    assert_eq!(ranges(1, 7), [layers(NeedsInitializedMemory)]);
+    assert_eq!(ranges(8, 0), []);
+}
+
+/// A write of no texels spans bytes all the same where it has several images.
+#[test]
+fn writes_of_nothing() {
+    let texture = texture(6, R8Unorm, D2, [1, 1, 2]);
+    let write = |length| {
+        let (rows, size) = (layout(1, Some(255), Some(1)), extent([1, 0, 2]));
+        listed(&write_texture(
+            DEVICE,
+            from_start(&texture),
+            length,
+            rows,
+            size,
+        ))
+    };
+    assert_eq!(write(256), "ok 0 0 255\n");
+    assert_eq!(write(255), "refused 8 1 0 1 255 255\n");
 }
 
 #[test]

@@ -1,4 +1,4 @@
-//! The bench points of the scope document, each as a copy.
+//! The bench points of the scope document, each as a copy, and the longest write from memory.
 
 mod common;
 
@@ -122,6 +122,38 @@ fn more_bytes_than_64_bits_count() {
     let src = strided(&buffer, Some(4_294_967_040), Some(4_294_967_295));
     let refused = copy_buffer_to_texture(DEVICE, src, from_start(&texture), texture.size);
     assert_eq!(listed(&refused), "refused 25 0 0 0 0 0\n");
+}
+
+/// All that 64 bits can count is in the block. The offset of a third region would have more bits.
+#[test]
+fn a_block_as_long_as_64_bits_count() {
+    let texture = texture(0, R8Unorm, D2, [1, 1, 2]);
+    let strides = layout(0, Some(u32::MAX), Some(u32::MAX));
+    let write = |length| {
+        let dst = from_start(&texture);
+        write_texture(DEVICE, dst, length, strides, texture.size)
+    };
+    let expected = "\
+ok 2 1 18446744065119617026
+t 0 0 0 2 0
+r 0 4294967295 4294967295 0 0 0 0 0 1 1 1 1
+r 18446744065119617025 4294967295 4294967295 0 1 0 0 0 1 1 1 1
+";
+    let mut plan = write(u64::MAX).unwrap();
+    assert_eq!(listed(&Ok(plan.clone())), expected);
+    let offsets: Vec<u64> =
+        std::iter::from_fn(|| plan.next_region().map(|region| region.buffer_layout.offset))
+            .collect();
+    assert_eq!(offsets, [0, 18_446_744_065_119_617_025]);
+    assert_eq!(plan.next_region(), None);
+    assert_eq!(
+        write(18_446_744_065_119_617_026).map(|plan| plan.regions_left()),
+        Ok(2)
+    );
+    assert_eq!(
+        listed(&write(18_446_744_065_119_617_025)),
+        "refused 8 1 0 0 18446744065119617026 18446744065119617025\n"
+    );
 }
 
 #[test]

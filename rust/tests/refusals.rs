@@ -1,7 +1,8 @@
 //! Every refusal that a copy can give, with its details.
 //!
 //! No copy gives these: 1 is a sheet's, 38 the region writer's, and 37 comes after 13, which is checked first. 16 and 17 come from
-//! the range in the texture; their second check, with the rows in the buffer, comes after it.
+//! the range in the texture; their second check, with the rows in the buffer, comes after it. Writes from memory have tests of their
+//! own in writes.rs.
 
 mod common;
 
@@ -14,12 +15,19 @@ use TextureDimension::{D1, D2, D3};
 use TextureErrorDimension as Dimension;
 use TextureFormat::*;
 
+/// A write from as many bytes of memory is refused alike, unless it is for what is asked of buffers alone.
 fn upload(
     src: TexelCopyBufferInfo<'_>,
     dst: TexelCopyTextureInfo<'_>,
     size: [u32; 3],
 ) -> Option<TransferError> {
-    copy_buffer_to_texture(DEVICE, src, dst, extent(size)).err()
+    let size = extent(size);
+    let refused = copy_buffer_to_texture(DEVICE, src, dst, size).err();
+    if !refused.is_some_and(|why| matches!(why.number(), 3 | 5 | 14 | 20)) {
+        let written = write_texture(DEVICE, dst, src.buffer.size, src.layout, size);
+        assert_eq!(written.err(), refused);
+    }
+    refused
 }
 
 fn download(

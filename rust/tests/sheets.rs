@@ -40,6 +40,32 @@ fn an_index_past_its_section() {
     );
 }
 
+/// A write from memory has a length of 64 bits where other copies name a buffer.
+#[test]
+fn writes_from_memory() {
+    let listing = |copy: &str| {
+        let sheet = format!("1\n1 1\n1\n0 2 1 1 1 1 1 2\n0\n1\n{copy}\n");
+        text(list_sheet(sheet.as_bytes()))
+    };
+    assert_eq!(
+        listing("5 18446744073709551615 3 - - 0 0 0 0 0 0 1 1 1"),
+        "copy 0 ok 1 1 1\nt 0 0 0 1 0\nr 3 - - 0 0 0 0 0 1 1 1 1\n"
+    );
+    assert_eq!(
+        listing("5 1 0 - - 1 0 0 0 0 0 1 1 1"),
+        "copy 0 refused 1 0 0 0 0 0\n"
+    );
+    for ill in [
+        "5 - 0 - - 0 0 0 0 0 0 1 1 1",
+        "5 18446744073709551616 0 - - 0 0 0 0 0 0 1 1 1",
+        "5 1 0 - - 0 0 0 0 0 6 1 1 1",
+        "5 1 0 - - 0 0 0 0 0 0 1 1",
+        "6 1 0 - - 0 0 0 0 0 0 1 1 1",
+    ] {
+        assert_eq!(listing(ill), "sheet 7\n", "{ill}");
+    }
+}
+
 /// A listing many times as long as its sheet.
 #[test]
 fn a_long_listing() {

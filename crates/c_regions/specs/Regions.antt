@@ -50,7 +50,7 @@ bufferRegion w = take 3 (drop 2 w)
 unfoldable pub bufferBehind : List ℕ → List ℕ
 bufferBehind w = oneFewer w
 
--- between a buffer and a texture: the words from 3 on, of which 3 is the offset and 7 the layer; word 2 is the stride
+-- between a buffer, or memory, and a texture: the words from 3 on, of which 3 is the offset and 7 the layer; word 2 is the stride
 
 unfoldable pub bufferTextureRegion : List ℕ → List ℕ
 bufferTextureRegion w = drop 3 w

@@ -67,7 +67,7 @@ layersWords r = kindWord (r .kind) ∷ r .layers .start ∷ r .layers .end ∷ [
 unfoldable pub buffersRangeWords : BufferPlan → List ℕ
 buffersRangeWords p = rangeWords (p .«dst_range») ++ rangeWords (p .«src_range»)
 
--- the texture's, then the buffer's
+-- the texture's, then the buffer's, of which memory has none
 unfoldable pub copyRangeWords : CopyRanges → List ℕ
 copyRangeWords (C.Given t b) = layersWords t ++ (rangeWords (b .head) ++ (rangeWords (b .whole) ++ rangeWords (b .tail)))
 copyRangeWords C.Absent = replicate 12 0

@@ -252,7 +252,7 @@ pub fn put_buffers(answer: BufferPlanned, plan: &mut [u64; 6], ranges: &mut [u64
     }
 }
 
-// The same of a copy between a buffer and a texture.
+// The same of a copy between a buffer, or memory, and a texture.
 pub fn put_copy(answer: BufferTexturePlanned, plan: &mut [u64; 15], ranges: &mut [u64; 12]) -> u32
     ensures { λ r. ⌜ r ≡ copyNumber answer ⌝ }
     ensures { λ _. ⌜ now (plan .exit) ≡ copyPlan answer ⌝ }

@@ -1,22 +1,24 @@
 -- Demand 3, of every accepted copy.
 -- Assumes nothing.
-use mathlib.Core.Path.{_≡_, refl, _∙_}
-use mathlib.Core.Bool.{Bool, true, false, cond, _||_, not}
+use mathlib.Core.Path.{_≡_, refl, ap, _∙_}
+use mathlib.Core.Bool.{Bool, true, false, cond}
 use mathlib.Core.List.{List}
 use mathlib.Core.Logic.{_⊎_, inl, inr}
-use Prim.Native.Nat.{ℕ, _+_, _≤_, _<_}
+use Prim.Native.Nat.{ℕ, _+_, _/_, _≤_, _<_}
 use native.Mathlib.Omega.{arith}
 use lib.Dec.{ltb}
-use borrow.Author.Tests.{ltb-true, ltb-false, not-false}
-use Rattle.conditions.proofs.Rules.{neither}
+use borrow.Author.Tests.{ltb-true, ltb-false}
 use Rattle.rule_init_ranges.specs.declared.MemoryInitKind.the-variants.{ImplicitlyInitialized, NeedsInitializedMemory}
+use Rattle.rule_init_ranges.specs.declared.BufferInitRanges.{BufferInitRanges}
 use Rattle.plan_buffer_texture.specs.declared.BufferTextureCopy.{BufferTextureCopy}
 use Rattle.plan_buffer_texture.specs.declared.CopyRanges.{CopyRanges}
 use Rattle.plan_buffer_texture.specs.declared.CopyRanges.the-variants.{Given}
 use Rattle.claim_ownership.specs.Asking.{Gives}
-use Rattle.copy_buffer_texture.specs.Copy.{Upload, Download, Copy}
-use Rattle.claim_ownership.specs.Copy.{bufferIsRead, depth, bytes, wide, high, row, rows, total, is2D, count, regionsOf}
-use Rattle.claim_ownership.specs.Ranges.{contiguous, touched, filled, textureRange, bufferRanges, listed}
+use Rattle.records.specs.declared.Buffer.{Buffer}
+use Rattle.copy_buffer_texture.specs.declared.UploadSource.the-variants as S
+use Rattle.copy_buffer_texture.specs.Copy.{Direction, Upload, Download, Copy}
+use Rattle.claim_ownership.specs.Copy.{depth, bytes, wide, high, row, rows, total, is2D, count, regionsOf}
+use Rattle.claim_ownership.specs.Ranges.{contiguous, touched, filled, textureRange, rangesBy, bufferRanges, listed}
 use Rattle.claim_ownership.specs.Demand3.{Owned, Between, Beside, Reported, Demand3, EveryCopy}
 use Rattle.claim_ownership.proofs.Blocks as blocks
 use Rattle.claim_ownership.proofs.Accepted.{checks-of}
@@ -31,6 +33,10 @@ use Rattle.claim_ownership.proofs.Runs as runs
 layered : (t : Bool) (d m : ℕ) → 0 < m → m < cond t d 1 → (t ≡ true) × (m < d)
 layered true d m p h = (refl, h)
 layered false d m p h = absurd (omega arith)
+
+within : (t : Bool) (d m : ℕ) → 0 < d → m < cond t d 1 → m < d
+within true d m p h = h
+within false d m p h = omega arith
 
 module _ (c : Copy) (s : Sound c) (pw : 0 < c .size .width .0) (ph : 0 < c .size .height .0) (pd : 0 < depth c) where
   -- ---- the regions
@@ -58,70 +64,71 @@ module _ (c : Copy) (s : Sound c) (pw : 0 < c .size .width .0) (ph : 0 < c .size
   abbrev e₀ : ℕ
   e₀ = c .layout .offset + total c
 
-  abbrev ranges : CopyRanges
-  ranges = Given (textureRange c) (bufferRanges c)
+  abbrev rangesOf : BufferInitRanges → CopyRanges
+  rangesOf r = Given (textureRange c) r
 
-  touched-is : (bufferIsRead (c .direction) || not (contiguous c)) ≡ true → bufferRanges c ≡ touched s₀ e₀
-  touched-is e = rw e
+  -- a run that is written, padded or not
+  abbrev run : Bool → BufferInitRanges
+  run t = cond t (filled s₀ e₀) (touched s₀ e₀)
 
-  filled-is : (bufferIsRead (c .direction) || not (contiguous c)) ≡ false → bufferRanges c ≡ filled s₀ e₀
-  filled-is e = rw e
+  filled-owned : (t : Bool) → contiguous c ≡ t → (byte : ℕ) → Reported ImplicitlyInitialized byte (listed (rangesOf (run t))) → Owned c byte
+  filled-owned true e byte h = let r = runs.within (textureRange c) s₀ e₀ byte h in owners.full c s pw ph pd e byte (r .0) (r .1)
+  filled-owned false e byte h = runs.never (textureRange c) s₀ e₀ byte h
 
-  padded : c .direction ≡ Download → contiguous c ≡ false → (bufferIsRead (c .direction) || not (contiguous c)) ≡ true
-  padded e f = rw (f, e)
+  implicit : (d : Direction) (byte : ℕ) → Reported ImplicitlyInitialized byte (listed (rangesOf (rangesBy d c))) → Owned c byte
+  implicit (Upload (S.Buffer b)) byte h = runs.never (textureRange c) s₀ e₀ byte h
+  implicit (Upload (S.Memory length)) byte h = runs.unreported (textureRange c) byte h
+  implicit (Download b) byte h = filled-owned (contiguous c) refl byte h
 
-  unpadded : c .direction ≡ Download → contiguous c ≡ true → (bufferIsRead (c .direction) || not (contiguous c)) ≡ false
-  unpadded e f = rw (f, e)
-
-  implicit : (t : Bool) → (bufferIsRead (c .direction) || not (contiguous c)) ≡ t → (byte : ℕ) → Reported ImplicitlyInitialized byte (listed ranges) → Owned c byte
-  implicit true e byte h = runs.never (textureRange c) s₀ e₀ byte (rw (touched-is e) at h)
-  implicit false e byte h =
-      let r = runs.within (textureRange c) s₀ e₀ byte (rw (filled-is e) at h) in
-      owners.full c s pw ph pd (not-false _ (neither (bufferIsRead (c .direction)) _ e .1)) byte (r .0) (r .1)
-
-  read : c .direction ≡ Upload → (byte : ℕ) → Owned c byte → Reported NeedsInitializedMemory byte (listed ranges)
-  read e byte o =
+  read : (b : Buffer) → c .direction ≡ Upload (S.Buffer b) → (byte : ℕ) → Owned c byte → Reported NeedsInitializedMemory byte (listed (rangesOf (bufferRanges c)))
+  read b e byte o =
       let i = owners.inside c s pw ph pd byte (o .0) (o .1) in
-      rw (touched-is (rw e)) (runs.covered (textureRange c) s₀ e₀ byte byte (i .0) (i .1) refl)
+      let is : bufferRanges c ≡ touched s₀ e₀ = ap (λ (d : Direction). rangesBy d c) e in
+      rw is (runs.covered (textureRange c) s₀ e₀ byte byte (i .0) (i .1) refl)
 
-  written : c .direction ≡ Download → (byte : ℕ) → (Owned c byte → ⊥) → Between c byte ⊎ Beside c byte → Reported NeedsInitializedMemory byte (listed ranges)
   -- within the span: owned, or reported with the whole span
-  written w byte un (inl (below, above, o, l, p, h)) =
+  between : (byte : ℕ) → (Owned c byte → ⊥) → s₀ ≤ byte → byte < e₀ → (t : Bool) → contiguous c ≡ t → Reported NeedsInitializedMemory byte (listed (rangesOf (run t)))
+  between byte un lo hi true e = absurd (un (owners.full c s pw ph pd e byte lo hi))
+  between byte un lo hi false e = runs.covered (textureRange c) s₀ e₀ byte byte lo hi refl
+
+  -- before the run, after it, or in it and so owned
+  beside :
+      (byte near : ℕ) → (Owned c byte → ⊥) → near / 4 ≡ byte / 4 → s₀ ≤ near → near < e₀ → (t u v : Bool) → contiguous c ≡ t → ltb byte s₀ ≡ u → ltb byte e₀ ≡ v
+      → Reported NeedsInitializedMemory byte (listed (rangesOf (run t)))
+  beside byte near un w lo hi false u v e f g = runs.covered (textureRange c) s₀ e₀ byte near lo hi w
+  beside byte near un w lo hi true true v e f g = runs.head (textureRange c) s₀ e₀ byte near (ltb-true _ _ f) lo w
+  beside byte near un w lo hi true false false e f g = runs.tail (textureRange c) s₀ e₀ byte near (ltb-false _ _ g) hi w
+  beside byte near un w lo hi true false true e f g = absurd (un (owners.full c s pw ph pd e byte (ltb-false _ _ f) (ltb-true _ _ g)))
+
+  needs : (byte : ℕ) → (Owned c byte → ⊥) → Between c byte ⊎ Beside c byte → Reported NeedsInitializedMemory byte (listed (rangesOf (run (contiguous c))))
+  needs byte un (inl (below, above, o, l, p, h)) =
       let i = owners.inside c s pw ph pd below (o .0) (o .1) in
       let j = owners.inside c s pw ph pd above (p .0) (p .1) in
-      go (contiguous c) refl (omega arith) (omega arith)
-    where
-      go : (t : Bool) → contiguous c ≡ t → s₀ ≤ byte → byte < e₀ → Reported NeedsInitializedMemory byte (listed ranges)
-      go true e lo hi = absurd (un (owners.full c s pw ph pd e byte lo hi))
-      go false e lo hi = rw (touched-is (padded w e)) (runs.covered (textureRange c) s₀ e₀ byte byte lo hi refl)
-  written w byte un (inr (near, o, v)) = let i = owners.inside c s pw ph pd near (o .0) (o .1) in go (contiguous c) refl (i .0) (i .1)
-    where
-      -- before the run, after it, or in it and so owned
-      by : contiguous c ≡ true → s₀ ≤ near → near < e₀ → (t u : Bool) → ltb byte s₀ ≡ t → ltb byte e₀ ≡ u → Reported NeedsInitializedMemory byte (listed (Given (textureRange c) (filled s₀ e₀)))
-      by e lo hi true u f g = runs.head (textureRange c) s₀ e₀ byte near (ltb-true _ _ f) lo v
-      by e lo hi false false f g = runs.tail (textureRange c) s₀ e₀ byte near (ltb-false _ _ g) hi v
-      by e lo hi false true f g = absurd (un (owners.full c s pw ph pd e byte (ltb-false _ _ f) (ltb-true _ _ g)))
+      between byte un (omega arith) (omega arith) (contiguous c) refl
+  needs byte un (inr (near, o, w)) =
+      let i = owners.inside c s pw ph pd near (o .0) (o .1) in
+      beside byte near un w (i .0) (i .1) (contiguous c) _ _ refl refl refl
 
-      go : (t : Bool) → contiguous c ≡ t → s₀ ≤ near → near < e₀ → Reported NeedsInitializedMemory byte (listed ranges)
-      go true e lo hi = rw (filled-is (unpadded w e)) (by e lo hi _ _ refl refl)
-      go false e lo hi = rw (touched-is (padded w e)) (runs.covered (textureRange c) s₀ e₀ byte near lo hi v)
+  written : (b : Buffer) → c .direction ≡ Download b → (byte : ℕ) → (Owned c byte → ⊥) → Between c byte ⊎ Beside c byte → Reported NeedsInitializedMemory byte (listed (rangesOf (bufferRanges c)))
+  written b e byte un h = let is : bufferRanges c ≡ run (contiguous c) = ap (λ (d : Direction). rangesBy d c) e in rw is (needs byte un h)
 
   demand : Demand3 c (planOfCopy c)
   demand =
       record {
         one-owner = owners.owner c s pw ph pd;
         inside = λ byte o. owners.inside c s pw ph pd byte (o .0) (o .1);
+        offsets = λ n h. owners.image-below c s pw ph pd n (within (is2D c) (depth c) n pd h);
         asked = λ rs. (only rs, λ e. rw (e, ← all-left) (asks.gives (count c) (planOfCopy c) refl));
         reported = refl;
         required = refl;
         named = λ rs g b h. rw (only rs g) (_, named-by c s b h);
         outside = λ rs g. rw (only rs g) (boxed c);
-        implicit = implicit _ refl;
+        implicit = implicit (c .direction);
         read = read;
         written = written;
       }
 
 pub every-copy : EveryCopy
-every-copy c p e pw ph pd =
+every-copy c p fits e pw ph pd =
     let k = checks-of c p e in
-    rw (plan-is c p k pw ph pd) (demand c (sound-of c p k) pw ph pd)
+    rw (plan-is c p k pw ph pd) (demand c (sound-of c p k fits) pw ph pd)

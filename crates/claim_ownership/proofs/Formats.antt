@@ -46,18 +46,18 @@ alike d aspect format =
 
 all-alike : (d : Direction) (aspect : TextureAspect) → everyBelow (alike d aspect) 22 ≡ true
 unfolding alike copyable goesB sheet.formats formatRow aspectsOf blockDimensions askedOf chosenAspects bytesOf blockCopySize blockBytes orElse meet isOne stop-if refuse-if first decided srcFormatChecks dstFormatChecks isDepthOnly formats blockSide isAll chosenBits bytesPerBlock
-all-alike Upload All = refl
-all-alike Upload StencilOnly = refl
-all-alike Upload DepthOnly = refl
-all-alike Upload Plane0 = refl
-all-alike Upload Plane1 = refl
-all-alike Upload Plane2 = refl
-all-alike Download All = refl
-all-alike Download StencilOnly = refl
-all-alike Download DepthOnly = refl
-all-alike Download Plane0 = refl
-all-alike Download Plane1 = refl
-all-alike Download Plane2 = refl
+all-alike (Upload source) All = refl
+all-alike (Upload source) StencilOnly = refl
+all-alike (Upload source) DepthOnly = refl
+all-alike (Upload source) Plane0 = refl
+all-alike (Upload source) Plane1 = refl
+all-alike (Upload source) Plane2 = refl
+all-alike (Download b) All = refl
+all-alike (Download b) StencilOnly = refl
+all-alike (Download b) DepthOnly = refl
+all-alike (Download b) Plane0 = refl
+all-alike (Download b) Plane1 = refl
+all-alike (Download b) Plane2 = refl
 
 pub record Figures (format : ℕ) (aspect : TextureAspect) : Type 0 where
   pub width : blockWidth format ≡ blockSide format

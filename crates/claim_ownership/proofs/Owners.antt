@@ -3,14 +3,14 @@
 use mathlib.Core.Path.{_≡_, ap, _∙_}
 use mathlib.Core.Bool.{true, _&&_, _||_}
 use mathlib.Core.Logic.{_⊎_, inl, inr, ⊎-elim}
-use Prim.Native.Nat.{ℕ, _+_, _-_, _*_, _≤_, _<_}
+use Prim.Native.Nat.{ℕ, _+_, _-_, _*_, _^_, _≤_, _<_}
 use native.Mathlib.Omega.{arith}
 use native.Mathlib.Nat.{zero-mul, eq-zero-or-pos}
 use lib.Dec.{eqb, leb}
 use borrow.Author.Tests.{eqb-true, leb-true, ne-eqb}
 use Rattle.conditions.proofs.Rules.{both-true, either}
 use Rattle.copy_buffer_texture.specs.Copy.{Copy}
-use Rattle.claim_ownership.specs.Copy.{depth, block, bytes, wide, high, dense, row, rows, image, imageBytes, total}
+use Rattle.claim_ownership.specs.Copy.{byteSize, depth, block, bytes, wide, high, dense, row, rows, image, imageBytes, total}
 use Rattle.claim_ownership.specs.Ranges.{contiguous}
 use Rattle.claim_ownership.specs.Demand3.{Block, Owns, Owned, firstByte}
 use Rattle.claim_ownership.proofs.Blocks as blocks
@@ -20,10 +20,10 @@ pos-left : (q b n : ℕ) → q * b ≡ n → 0 < n → 0 < q
 pos-left q b n e h = ⊎-elim (λ z. absurd (omega (arith, e, ap (λ (k : ℕ). k * b) z, zero-mul b))) (λ p. p) (eq-zero-or-pos q)
 
 module _ (c : Copy) (s : Sound c) (pw : 0 < c .size .width .0) (ph : 0 < c .size .height .0) (pd : 0 < depth c) where
-  wide-pos : 0 < wide c
+  pub wide-pos : 0 < wide c
   wide-pos = pos-left (wide c) (block c) (c .size .width .0) (s .w-whole) pw
 
-  high-pos : 0 < high c
+  pub high-pos : 0 < high c
   high-pos = pos-left (high c) (block c) (c .size .height .0) (s .h-whole) ph
 
   image-bytes : imageBytes c ≡ (high c - 1) * row c + dense c
@@ -40,12 +40,20 @@ module _ (c : Copy) (s : Sound c) (pw : 0 < c .size .width .0) (ph : 0 < c .size
       let p = blocks.one-owner (c .layout .offset) (bytes c) (wide c) (high c) (depth c) (rows c) (row c) (s .fit) (s .tall) byte (b .i) (b .j) (b .k) (b′ .i) (b′ .j) (b′ .k) (o .boxed .0) (o .boxed .1) (o .from) (o .before) (o′ .boxed .0) (o′ .boxed .1) (o′ .from) (o′ .before) in
       λ n. record { i = p .0 n; j = p .1 n; k = p .2 n }
 
-  pub inside : (byte : ℕ) (b : Block) → Owns c b byte → (c .layout .offset ≤ byte) × (byte < c .layout .offset + total c) × (byte < c .buffer .size)
+  pub inside : (byte : ℕ) (b : Block) → Owns c b byte → (c .layout .offset ≤ byte) × (byte < c .layout .offset + total c) × (byte < byteSize (c .direction))
   unfolding firstByte
   inside byte b o =
       let h = blocks.inside (c .layout .offset) (bytes c) (wide c) (high c) (depth c) (rows c) (row c) (b .i) (b .j) (b .k) (o .boxed .0) (o .boxed .1) (o .boxed .2) in
       let e = s .end in
       omega (arith, the-total)
+
+  -- the first byte of an image is owned, so it lies below the last number of 64 bits
+  pub image-below : (k : ℕ) → k < depth c → c .layout .offset + k * image c < 2 ^ 64 - 1
+  unfolding firstByte
+  image-below k h =
+      let b : Block = record { i = 0; j = 0; k = k } in
+      let o : Owns c b (firstByte c b) = record { boxed = (wide-pos, high-pos, h); from = omega arith; before = omega (arith, s .bytes-pos) } in
+      omega (arith, inside (firstByte c b) b o .2, s .small, zero-mul (row c), zero-mul (bytes c))
 
   whole-rows : row c ≡ dense c → image c ≡ imageBytes c → image c ≡ high c * dense c
   whole-rows r e = e ∙ image-bytes ∙ ap (λ (x : ℕ). (high c - 1) * x + dense c) r ∙ blocks.pred-mul (high c) (dense c) high-pos

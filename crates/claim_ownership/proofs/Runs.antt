@@ -43,6 +43,13 @@ none = elim [ ]
 other-kind : {C : Type 0} → NeedsInitializedMemory ≡ ImplicitlyInitialized → C
 other-kind e = let z : _≡_ {A = ℕ} 0 1 = cc in absurd (omega arith)
 
+-- where there is no range of a buffer
+pub unreported :
+    {C : Type 0} {kind : MemoryInitKind} (texture : TextureInitRange) (byte : ℕ)
+    → Reported kind byte (listed (N.Given texture (record { head = Absent; whole = Absent; tail = Absent }))) → C
+unfolding joined
+unreported texture byte h = none h
+
 -- of a run from s to e, beside any range of the texture
 module _ (texture : TextureInitRange) (s e byte : ℕ) where
   -- a byte before the run, and one after it, with a byte of the run in its word

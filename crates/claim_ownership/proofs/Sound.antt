@@ -1,14 +1,15 @@
 -- The figures of an accepted copy, in the claim's own words.
 -- Assumes nothing.
-use mathlib.Core.Path.{_≡_, ap, _∙_}
-use Prim.Native.Nat.{ℕ, _+_, _*_, _/_, _%_, _≤_, _<_}
+use mathlib.Core.Path.{_≡_, refl, ap, _∙_}
+use mathlib.Core.Bool.{true}
+use Prim.Native.Nat.{ℕ, _+_, _*_, _/_, _%_, _^_, _≤_, _<_}
 use native.Mathlib.Omega.{arith}
 use native.Mathlib.Nat.{div-add-mod'}
 use Rattle.measures.specs.Measure.{blocksOf, inBlocks, physicalSize, roundUp}
 use Rattle.measures.proofs.Rounding.{block-laws}
 use Rattle.mip_levels.specs.Level.{textureDimension, mipLevelSize}
 use Rattle.formats.specs.Table.{blockWidth, blockHeight}
-use Rattle.records.specs.Limits.{maxBufferSize, maxSide3d}
+use Rattle.records.specs.Limits.{maxSide3d}
 use Rattle.records.specs.Extents.{logicalExtent, physicalExtent}
 use Rattle.records.proofs.Bounded.{buffer-laws, texture-laws}
 use Rattle.rule_linear_data.specs.declared.Dense.{Dense}
@@ -17,28 +18,42 @@ use Rattle.rule_linear_data.specs.Linear.{denseOf, totalBytes, dataOf, linearDa
 use Rattle.rule_linear_data.specs.Laws.{LinearLaws}
 use Rattle.copy_buffer_texture.specs.Plan as planner
 use Rattle.plan_buffer_texture.specs.declared.BufferTexturePlan.{BufferTexturePlan}
-use Rattle.copy_buffer_texture.specs.Copy.{Copy}
-use Rattle.claim_ownership.specs.Copy.{depth, bytes, block, wide, high, dense, row, rows, image, imageBytes, total}
+use Rattle.copy_buffer_texture.specs.declared.UploadSource.the-variants as S
+use Rattle.copy_buffer_texture.specs.Copy.{Direction, Upload, Download, Copy}
+use Rattle.copy_buffer_texture.specs.Laws as laws
+use Rattle.claim_ownership.specs.Copy.{byteSize, LengthFits, depth, bytes, block, wide, high, dense, row, rows, image, imageBytes, total}
 use Rattle.claim_ownership.specs.Ranges.{contiguous}
 use Rattle.claim_ownership.proofs.Formats.{Figures, figures}
 use Rattle.claim_ownership.proofs.Accepted.{Checks}
 use Rattle.claim_ownership.proofs.Bridges.{known, dense-is, stacked-is, single-is, neither-is}
 
 pub record Sound (c : Copy) : Type 0 where
-  pub small : c .buffer .size ≤ maxBufferSize
+  pub small : byteSize (c .direction) < 2 ^ 64
   pub block-pos : 0 < block c
   pub bytes-pos : 0 < bytes c
   pub w-whole : wide c * block c ≡ c .size .width .0
   pub h-whole : high c * block c ≡ c .size .height .0
   pub fit : dense c ≤ row c
   pub tall : high c ≤ rows c
-  pub end : c .layout .offset + total c ≤ c .buffer .size
+  pub end : c .layout .offset + total c ≤ byteSize (c .direction)
   pub deep : c .view .origin .z + depth c ≤ maxSide3d
 
 whole : (n side b : ℕ) → 0 < b → side ≡ b → n % side ≡ 0 → (blocksOf n side ≡ n / b) × (n / b * b ≡ n)
 whole n side b pos e h =
     let m : n % b ≡ 0 = rw e at h in
     (ap (λ (s : ℕ). blocksOf n s) e ∙ block-laws b pos .quotient n m, omega (arith, div-add-mod' n b))
+
+-- the bytes that the planner's law goes by
+pub size-is : (d : Direction) → laws.byteSize d ≡ byteSize d
+size-is (Upload (S.Buffer b)) = refl
+size-is (Upload (S.Memory length)) = refl
+size-is (Download b) = refl
+
+-- a buffer has far fewer than 2 ^ 64 bytes
+size-small : (d : Direction) → laws.bufferWithin d ≡ true → LengthFits d → byteSize d < 2 ^ 64
+size-small (Upload (S.Buffer b)) h fits = omega (arith, buffer-laws b h)
+size-small (Upload (S.Memory length)) h fits = fits
+size-small (Download b) h fits = omega (arith, buffer-laws b h)
 
 -- ---- what the planner's linear data is made of
 
@@ -71,8 +86,8 @@ module _ (c : Copy) (p : BufferTexturePlan) (k : Checks c p) where
   unfolding denseOf inBlocks
   measured = rw (across .0, along .0, figured .bytes)
 
-  linear : LinearLaws (c .layout) (c .buffer .size) (measures c)
-  linear = rw measured at (k .accepted .linear)
+  linear : LinearLaws (c .layout) (byteSize (c .direction)) (measures c)
+  linear = rw (measured, size-is (c .direction)) at (k .accepted .linear)
 
   pub linear-is : linearData (c .layout) (planner.dense c) ≡ linearOf c
   linear-is = ap (λ (d : Dense). linearData (c .layout) d) measured ∙ given-is c
@@ -88,10 +103,10 @@ module _ (c : Copy) (p : BufferTexturePlan) (k : Checks c p) where
       let few = texture-laws (c .texture) (k .accepted .texture-bounds) .level-sized (c .view .«mip_level») .depth-few in
       omega (arith, level-deep)
 
-  pub sound-of : Sound c
-  sound-of =
+  pub sound-of : LengthFits (c .direction) → Sound c
+  sound-of fits =
       record {
-        small = buffer-laws (c .buffer) (k .accepted .buffer-bounds);
+        small = size-small (c .direction) (k .accepted .buffer-bounds) fits;
         block-pos = figured .side-some;
         bytes-pos = figured .bytes-some;
         w-whole = across .1;

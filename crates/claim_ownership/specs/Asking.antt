@@ -1,4 +1,4 @@
--- Asking a plan of a copy between a buffer and a texture for all its regions.
+-- Asking a plan of a copy between a buffer, or memory, and a texture for all its regions.
 use mathlib.Core.Path.{_≡_}
 use mathlib.Core.List.{List, [], _∷_}
 use Rattle.plan_buffer_texture.specs.declared.BufferTextureCopy.{BufferTextureCopy}

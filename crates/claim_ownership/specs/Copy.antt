@@ -1,27 +1,42 @@
--- A copy between a buffer and a texture, its figures and its regions, from document 01's modules 4 and 8.
+-- A copy between a buffer, or memory, and a texture, its figures and its regions, from document 01's modules 4 and 8 and document 02's
+-- first request.
 use mathlib.Core.Bool.{Bool, true, false, cond}
 use mathlib.Core.List.{List, [], _∷_}
-use Prim.Native.Nat.{ℕ, zero, suc, _+_, _-_, _*_, _/_}
+use Prim.Native.Nat.{ℕ, zero, suc, _+_, _-_, _*_, _/_, _^_, _<_}
 use lib.Dec.{eqb}
 use Rattle.plan_buffer_texture.specs.declared.BufferTextureCopy.{BufferTextureCopy}
+use Rattle.copy_buffer_texture.specs.declared.UploadSource.the-variants as S
 use Rattle.copy_buffer_texture.specs.declared.BufferTexturePlanned.{BufferTexturePlanned}
 use Rattle.copy_buffer_texture.specs.Copy.{Direction, Upload, Download, Copy}
-use Rattle.copy_buffer_texture.specs.Plan.{bufferToTexture, textureToBuffer}
+use Rattle.copy_buffer_texture.specs.Plan.{bufferToTexture, memoryToTexture, textureToBuffer}
 use Rattle.claim_ownership.specs.Formats.{blockSide, chosenBits, bytesPerBlock}
 use Rattle.claim_ownership.specs.Regions.{orDense}
 
--- what the two plan functions' contracts give
+-- what the three plan functions' contracts give
 abbrev pub plannedBy : Direction → Copy → BufferTexturePlanned
-plannedBy Upload c = bufferToTexture (c .device) (c .buffer) (c .layout) (c .texture) (c .view) (c .size)
-plannedBy Download c = textureToBuffer (c .device) (c .texture) (c .view) (c .buffer) (c .layout) (c .size)
+plannedBy (Upload (S.Buffer b)) c = bufferToTexture (c .device) b (c .layout) (c .texture) (c .view) (c .size)
+plannedBy (Upload (S.Memory length)) c = memoryToTexture (c .device) length (c .layout) (c .texture) (c .view) (c .size)
+plannedBy (Download b) c = textureToBuffer (c .device) (c .texture) (c .view) b (c .layout) (c .size)
 
 abbrev pub planned : Copy → BufferTexturePlanned
 planned c = plannedBy (c .direction) c
 
--- the buffer is read: buffer to texture
-abbrev pub bufferIsRead : Direction → Bool
-bufferIsRead Upload = true
-bufferIsRead Download = false
+-- the texture is written: from a buffer or from memory
+abbrev pub textureIsWritten : Direction → Bool
+textureIsWritten (Upload source) = true
+textureIsWritten (Download b) = false
+
+-- the bytes of the buffer, or of the block of memory
+abbrev pub byteSize : Direction → ℕ
+byteSize (Upload (S.Buffer b)) = b .size
+byteSize (Upload (S.Memory length)) = length
+byteSize (Download b) = b .size
+
+-- the length of a block has 64 bits, as the field that holds it
+abbrev pub LengthFits : Direction → Type 0
+LengthFits (Upload (S.Buffer b)) = Unit {0}
+LengthFits (Upload (S.Memory length)) = length < 2 ^ 64
+LengthFits (Download b) = Unit {0}
 
 -- ---- figures (module 4)
 

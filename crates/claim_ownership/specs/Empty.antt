@@ -1,4 +1,4 @@
--- What holds of every accepted copy between a buffer and a texture with a size of 0, from document 01's order of checks.
+-- What holds of every accepted copy between a buffer, or memory, and a texture with a size of 0, from document 01's order of checks.
 use mathlib.Core.Path.{_≡_}
 use mathlib.Core.List.{List, []}
 use mathlib.Core.Logic.{_⊎_, _↔_}
@@ -20,6 +20,6 @@ pub record EmptyCopy (c : Copy) (p : BufferTexturePlan) : Type 0 where
   pub reported : p .ranges ≡ Absent
   pub required : p .«bytes_checked» ≡ total c
 
--- of every device, record and figure, and every accepted copy, either way, whose width, height or depth is 0
+-- of every device, record and figure, and every accepted copy, from a buffer, from memory or into a buffer, whose width, height or depth is 0
 abbrev pub EveryEmptyCopy : Type 0
 EveryEmptyCopy = (c : Copy) (p : BufferTexturePlan) → planned c ≡ Plan p → NoSize c → EmptyCopy c p

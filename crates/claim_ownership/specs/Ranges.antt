@@ -1,4 +1,5 @@
--- The ranges of a copy between a buffer and a texture, from document 01's module 7, and those that a plan reports.
+-- The ranges of a copy between a buffer, or memory, and a texture, from document 01's module 7 and document 02's first request, and those
+-- that a plan reports.
 use mathlib.Core.Bool.{Bool, cond, _&&_, _||_, not}
 use mathlib.Core.List.{List, [], _∷_}
 use Prim.Native.Nat.{ℕ, _+_, _-_, _/_, _%_, _^_, max}
@@ -14,8 +15,9 @@ use Rattle.rule_init_ranges.specs.declared.BufferInitRanges.{BufferInitRanges}
 use Rattle.plan_buffer_texture.specs.declared.CopyRanges.{CopyRanges}
 use Rattle.plan_buffer_texture.specs.declared.CopyRanges.the-variants as N
 use Rattle.claim_ownership.specs.Formats.{isAll}
-use Rattle.copy_buffer_texture.specs.Copy.{Copy}
-use Rattle.claim_ownership.specs.Copy.{bufferIsRead, depth, high, dense, row, image, imageBytes, total}
+use Rattle.copy_buffer_texture.specs.declared.UploadSource.the-variants as S
+use Rattle.copy_buffer_texture.specs.Copy.{Direction, Upload, Download, Copy}
+use Rattle.claim_ownership.specs.Copy.{textureIsWritten, depth, high, dense, row, image, imageBytes, total}
 
 -- ---- the texture's range
 
@@ -38,13 +40,13 @@ covers c =
     && ((not (is3D c) || eqb (depth c) (halved c (c .texture .size .«depth_or_array_layers»)))
     && isAll (c .view .aspect)))
 
--- a source needs its memory; a destination, where the buffer is read, unless the copy covers the level
+-- a source needs its memory; a destination unless the copy covers the level
 abbrev pub textureRange : Copy → TextureInitRange
 textureRange c =
     record {
       «mip_level» = c .view .«mip_level»;
       layers = layers c;
-      kind = cond (bufferIsRead (c .direction) && covers c) ImplicitlyInitialized NeedsInitializedMemory;
+      kind = cond (textureIsWritten (c .direction) && covers c) ImplicitlyInitialized NeedsInitializedMemory;
     }
 
 -- ---- the buffer's ranges, by words of four bytes, as the Rust has them
@@ -77,10 +79,15 @@ filled start end =
       tail = cond (eqb (end % 4) 0) Absent (run (down end) (down end + 4) NeedsInitializedMemory);
     }
 
+-- of the buffer that is read, or written; memory has none
+abbrev pub rangesBy : Direction → Copy → BufferInitRanges
+rangesBy (Upload (S.Buffer b)) c = touched (c .layout .offset) (c .layout .offset + total c)
+rangesBy (Upload (S.Memory length)) c = record { head = Absent; whole = Absent; tail = Absent }
+rangesBy (Download b) c =
+    cond (contiguous c) (filled (c .layout .offset) (c .layout .offset + total c)) (touched (c .layout .offset) (c .layout .offset + total c))
+
 abbrev pub bufferRanges : Copy → BufferInitRanges
-bufferRanges c =
-    cond (bufferIsRead (c .direction) || not (contiguous c)) (touched (c .layout .offset) (c .layout .offset + total c))
-    (filled (c .layout .offset) (c .layout .offset + total c))
+bufferRanges c = rangesBy (c .direction) c
 
 -- ---- those that are there, in order
 

@@ -1,4 +1,4 @@
--- What a region of a copy between a buffer and a texture means, from document 01's module 8, for blocks of any size.
+-- What a region of a copy between a buffer, or memory, and a texture means, from document 01's module 8, for blocks of any size.
 use mathlib.Core.Path.{_≡_}
 use Prim.Native.Nat.{ℕ, _+_, _-_, _*_, _/_, _≤_, _<_}
 use Rattle.measures.specs.declared.OptionU32.{OptionU32}

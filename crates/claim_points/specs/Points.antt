@@ -1,4 +1,5 @@
--- The starred points of document 01, one list: job sheets as they are written, and the listings that the paper gives.
+-- The starred points of document 01, with the listings that it gives, and a point of copies from memory (document 02's first request), whose
+-- listing was worked out by hand; one list.
 use mathlib.Core.Path.{_≡_}
 use mathlib.Core.List.{List, [], _∷_, map}
 use Prim.Native.Nat.{ℕ}
@@ -71,6 +72,11 @@ points =
     ∷ record {
       sheet = "1\n1 1\n2\n0 2 4 4 3 1 1 1\n0 3 4 4 3 1 1 2\n0\n1\n4 0 0 0 0 0 0 1 0 0 0 0 0 4 4 3\n";
       listing = "copy 0 ok 3 2 0\nt 0 0 0 3 1\nt 1 0 0 1 0\nr 0 0 0 0 0 1 0 0 0 0 0 1 4 4 1\nr 0 1 0 0 0 1 0 1 0 0 0 1 4 4 1\nr 0 2 0 0 0 1 0 2 0 0 0 1 4 4 1\n";
+    }
+    -- from memory: two layers of r8unorm 1×1 a stride of almost 2^64 apart; depth16unorm without the fact is 34; nothing has to be aligned
+    ∷ record {
+      sheet = "1\n0 1\n3\n0 2 1 1 2 1 1 2\n16 2 1 1 1 1 1 2\n2 2 8 8 2 1 1 2\n0\n3\n5 18446744073709551615 0 4294967295 4294967295 0 0 0 0 0 0 1 1 2\n5 2 0 - - 1 0 0 0 0 0 1 1 1\n5 513 1 32 8 2 0 0 0 0 0 8 8 2\n";
+      listing = "copy 0 ok 2 1 18446744065119617026\nt 0 0 0 2 0\nr 0 4294967295 4294967295 0 0 0 0 0 1 1 1 1\nr 18446744065119617025 4294967295 4294967295 0 1 0 0 0 1 1 1 1\ncopy 1 refused 34 0 0 0 0 0\ncopy 2 ok 2 1 512\nt 2 0 0 2 0\nr 1 32 8 0 0 0 0 0 1 8 8 1\nr 257 32 8 0 1 0 0 0 1 8 8 1\n";
     }
     ∷ []
 

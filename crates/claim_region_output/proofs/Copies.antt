@@ -1,22 +1,19 @@
 -- The plan of an accepted copy of each kind.
 -- Assumes nothing.
 use Prim.{Unit, tt}
-use mathlib.Core.Path.{_≡_, refl, sym, _∙_}
-use mathlib.Core.Bool.{Bool, true, false, _||_}
+use mathlib.Core.Path.{_≡_, refl}
+use mathlib.Core.Bool.{Bool, true, false, cond, _||_}
 use mathlib.Core.List.{[], _∷_}
-use Prim.Native.Nat.{ℕ, _+_, _-_, _*_, _≤_, _<_}
+use Prim.Native.Nat.{ℕ, _+_, _-_, _*_, _^_, _<_}
 use native.Mathlib.Omega.{arith}
-use native.Mathlib.Nat.{mul-le-mul-right, min-le-left}
+use native.Mathlib.Nat.{zero-mul, min-le-left}
 use lib.Dec.{eqb}
-use borrow.Author.Tests.{eqb-false, ne-eqb}
+use borrow.Author.Tests.{eqb-false}
 use Rattle.conditions.specs.Conditions.{pick}
 use Rattle.conditions.proofs.Rules.{neither}
 use Rattle.measures.specs.declared.Extent3d.{Extent3d}
 use Rattle.measures.specs.declared.OptionU64.{OptionU64}
 use Rattle.measures.specs.Measure.{lesserOf, isEmpty}
-use Rattle.mip_levels.specs.declared.TextureDimension.{TextureDimension}
-use Rattle.mip_levels.specs.declared.TextureDimension.the-variants.{D1, D2, D3}
-use Rattle.mip_levels.specs.Level.{textureDimension}
 use Rattle.records.specs.declared.Buffer.{Buffer}
 use Rattle.records.specs.declared.Device.{Device}
 use Rattle.records.specs.declared.Texture.{Texture}
@@ -24,9 +21,8 @@ use Rattle.records.specs.declared.TexelCopyTextureInfo.{TexelCopyTextureInfo}
 use Rattle.records.specs.declared.TexelCopyBufferLayout.{TexelCopyBufferLayout}
 use Rattle.records.proofs.Bounded.{buffer-laws}
 use Rattle.rule_copy_range.specs.declared.CopyExtent.{CopyExtent}
-use Rattle.rule_copy_range.specs.Range.{layersOf, arrayLayerCount}
-use Rattle.rule_linear_data.specs.Linear.{stacked, imageStride, dataOf, denseOf}
-use Rattle.rule_linear_data.specs.Laws.{LinearLaws}
+use Rattle.rule_copy_range.specs.Range.{arrayLayerCount}
+use Rattle.rule_linear_data.specs.Linear.{dataOf}
 use Rattle.plan_buffers.specs.declared.BufferPlan.{BufferPlan}
 use Rattle.plan_buffers.specs.Plan as K
 use Rattle.copy_buffers.specs.declared.BufferPlanned.{BufferPlanned}
@@ -36,12 +32,15 @@ use Rattle.copy_buffers.specs.Plan.{bufferToBuffer}
 use Rattle.copy_buffers.proofs.Accepted.{every-copy-law as buffers-law}
 use Rattle.plan_buffer_texture.specs.declared.BufferTexturePlan.{BufferTexturePlan}
 use Rattle.plan_buffer_texture.specs.Plan.{firstRegion, planOf}
+use Rattle.copy_buffer_texture.specs.declared.UploadSource.the-variants as S
 use Rattle.copy_buffer_texture.specs.declared.BufferTexturePlanned.{BufferTexturePlanned}
 use Rattle.copy_buffer_texture.specs.declared.BufferTexturePlanned.the-variants as U
 use Rattle.copy_buffer_texture.specs.Copy.{Direction, Upload, Download, Copy}
-use Rattle.copy_buffer_texture.specs.Plan.{dense, planFor, planned, bufferToTexture, textureToBuffer}
-use Rattle.copy_buffer_texture.specs.Laws.{Accepted}
-use Rattle.copy_buffer_texture.proofs.Accepted.{every-copy-law as copies-law, as-uploaded, as-downloaded}
+use Rattle.copy_buffer_texture.specs.Plan.{planFor, bufferToTexture, memoryToTexture, textureToBuffer}
+use Rattle.claim_ownership.specs.Copy as O
+use Rattle.claim_ownership.proofs.Accepted.{checks-of}
+use Rattle.claim_ownership.proofs.Claims.{every-copy}
+use Rattle.claim_ownership.proofs.Planned.{plan-is}
 use Rattle.records.specs.declared.TextureSide.{TextureSide}
 use Rattle.plan_textures.specs.declared.TexturePlan.{TexturePlan}
 use Rattle.plan_textures.specs.Plan as X
@@ -77,7 +76,7 @@ buffers-fit device i src from j dst to size =
     let d = buffer-laws dst (a .0 .dst-bounds) in
     rw (← a .1) (omega (arith, s, a .0 .src-inside), (omega (arith, d, a .0 .dst-inside), (omega (arith, s, a .0 .src-inside), tt)))
 
--- ---- between a buffer and a texture
+-- ---- between a buffer, or memory, and a texture
 
 unfoldable pub BufferTextureFit : BufferTexturePlanned → Type 0
 BufferTextureFit (U.Plan p) = 0 < p .left → FitBufferTexture p
@@ -88,64 +87,62 @@ unfolding BufferTextureFit
 copy-by (U.Plan p) h = h p refl
 copy-by (U.Refused e) h = tt
 
--- no more layers than images
-layers-few : (d : TextureDimension) (n : ℕ) → 0 < n → layersOf d n - 1 ≤ n - 1
-layers-few D1 n h = omega arith
-layers-few D2 n h = omega arith
-layers-few D3 n h = omega arith
-
--- a copy that is not empty has an image
-image-some : (size : Extent3d) → isEmpty size ≡ false → 0 < size .«depth_or_array_layers»
+-- a copy that is not empty has every size
+sizes-some : (size : Extent3d) → isEmpty size ≡ false → (0 < size .width .0) × (0 < size .height .0) × (0 < size .«depth_or_array_layers»)
 unfolding isEmpty
-image-some size e =
-    let tall = neither (eqb (size .width .0) 0) (eqb (size .height .0) 0 || eqb (size .«depth_or_array_layers») 0) e .1 in
-    let deep = neither (eqb (size .height .0) 0) (eqb (size .«depth_or_array_layers») 0) tall .1 in
-    let some : size .«depth_or_array_layers» ≡ 0 → ⊥ = eqb-false (size .«depth_or_array_layers») 0 deep in
-    omega arith
+sizes-some size e =
+    let w = neither (eqb (size .width .0) 0) (eqb (size .height .0) 0 || eqb (size .«depth_or_array_layers») 0) e in
+    let h = neither (eqb (size .height .0) 0) (eqb (size .«depth_or_array_layers») 0) (w .1) in
+    let wide : size .width .0 ≡ 0 → ⊥ = eqb-false (size .width .0) 0 (w .0) in
+    let high : size .height .0 ≡ 0 → ⊥ = eqb-false (size .height .0) 0 (h .0) in
+    let deep : size .«depth_or_array_layers» ≡ 0 → ⊥ = eqb-false (size .«depth_or_array_layers») 0 (h .1) in
+    (omega arith, omega arith, omega arith)
 
 not-empty : (t : Bool) (n : ℕ) → 0 < pick t 0 n → t ≡ false
 not-empty true n h = absurd (omega (arith, h))
 not-empty false n h = refl
 
-module _ (c : Copy) (f : Figures (c .view) (c .size)) (bytes : Small (optional (c .layout .«bytes_per_row») ∷ [])) (rows : Small (optional (c .layout .«rows_per_image») ∷ [])) where
-  abbrev images : ℕ
-  images = c .size .«depth_or_array_layers»
+module _ (c : Copy) (fits : O.LengthFits (c .direction)) (f : Figures (c .view) (c .size)) (bytes : Small (optional (c .layout .«bytes_per_row») ∷ [])) (rows : Small (optional (c .layout .«rows_per_image») ∷ [])) where
+  -- the last region's offset, by demand 3
+  last-below : (p : BufferTexturePlan) → O.planned c ≡ U.Plan p → isEmpty (c .size) ≡ false → p .region .offset + (p .left - 1) * p .stride < 2 ^ 64 - 1
+  last-below p e full =
+      let z = sizes-some (c .size) full in
+      let below = every-copy c p fits e (z .0) (z .1) (z .2) .offsets (O.count c - 1) (some (O.is2D c) (O.depth c) (z .2)) in
+      rw (plan-is c p (checks-of c p e) (z .0) (z .1) (z .2)) (omega (arith, below, zero-mul (O.image c)))
+    where
+      some : (t : Bool) (n : ℕ) → 0 < n → cond t n 1 - 1 < cond t n 1
+      some true n h = omega arith
+      some false n h = omega arith
 
-  -- the last image lies inside the buffer
-  last-inside : LinearLaws (c .layout) (c .buffer .size) (dense c) → 0 < images → (n : ℕ) → n ≤ images - 1 → c .layout .offset + n * imageStride (c .layout) (dense c) ≤ c .buffer .size
-  unfolding stacked denseOf
-  last-inside l some n few =
-      let inside = l .inside in
-      let within = rw (ne-eqb images 0 (λ z. omega (arith, z, some))) at inside in
-      omega (arith, within, mul-le-mul-right (imageStride (c .layout) (dense c)) few)
-
-  plan-fits : Accepted c → 0 < planFor c .left → FitBufferTexture (planFor c)
+  plan-fits : (p : BufferTexturePlan) → O.planned c ≡ U.Plan p → 0 < p .left → FitBufferTexture p
   unfolding planFor planOf firstRegion arrayLayerCount dataOf
-  plan-fits a left =
-      let full = not-empty (isEmpty (c .size)) _ left in
-      let some = image-some (c .size) full in
-      rw full
-      (record {
-        last = omega (arith, buffer-laws (c .buffer) (a .buffer-bounds), last-inside (a .linear) some _ (layers-few (textureDimension (c .texture .dimension)) images some));
-        bytes = bytes;
-        rows = rows;
-        base = base-small (c .view) (c .texture) (c .size) f;
-        size = extent-small (c .view) (c .texture) (c .size) f;
-      })
+  plan-fits p e left =
+      let k = checks-of c p e in
+      let full = not-empty (isEmpty (c .size)) _ (rw (← k .plan) at left) in
+      record {
+        last = last-below p e full;
+        bytes = rw (← k .plan) bytes;
+        rows = rw (← k .plan) rows;
+        base = rw (← k .plan) (base-small (c .view) (c .texture) (c .size) f);
+        size = rw (← k .plan) (extent-small (c .view) (c .texture) (c .size) f);
+      }
 
-  copy-fits : (r : BufferTexturePlanned) → r ≡ planned c → BufferTextureFit r
-  copy-fits r is = copy-by r λ p e left. let a = copies-law c .is-accepted p (sym is ∙ e) in rw (← a .1) (plan-fits (a .0) (rw (a .1) left))
+  copy-fits : BufferTextureFit (O.planned c)
+  copy-fits = copy-by (O.planned c) λ p e left. plan-fits p e left
 
-module _ (device : Device) (b : Buffer) (layout : TexelCopyBufferLayout) (t : Texture) (view : TexelCopyTextureInfo) (size : Extent3d)
+module _ (device : Device) (layout : TexelCopyBufferLayout) (t : Texture) (view : TexelCopyTextureInfo) (size : Extent3d)
     (f : Figures view size) (bytes : Small (optional (layout .«bytes_per_row») ∷ [])) (rows : Small (optional (layout .«rows_per_image») ∷ [])) where
   abbrev copyOf : Direction → Copy
-  copyOf way = record { direction = way; device = device; buffer = b; layout = layout; texture = t; view = view; size = size }
+  copyOf way = record { direction = way; device = device; layout = layout; texture = t; view = view; size = size }
 
-  pub upload-fits : BufferTextureFit (bufferToTexture device b layout t view size)
-  upload-fits = copy-fits (copyOf Upload) f bytes rows _ (as-uploaded (copyOf Upload) refl)
+  pub upload-fits : (b : Buffer) → BufferTextureFit (bufferToTexture device b layout t view size)
+  upload-fits b = copy-fits (copyOf (Upload (S.Buffer b))) tt f bytes rows
 
-  pub download-fits : BufferTextureFit (textureToBuffer device t view b layout size)
-  download-fits = copy-fits (copyOf Download) f bytes rows _ (as-downloaded (copyOf Download) refl)
+  pub memory-fits : (length : ℕ) → length < 2 ^ 64 → BufferTextureFit (memoryToTexture device length layout t view size)
+  memory-fits length small = copy-fits (copyOf (Upload (S.Memory length))) small f bytes rows
+
+  pub download-fits : (b : Buffer) → BufferTextureFit (textureToBuffer device t view b layout size)
+  download-fits b = copy-fits (copyOf (Download b)) tt f bytes rows
 
 -- ---- between textures
 

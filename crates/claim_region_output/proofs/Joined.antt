@@ -50,7 +50,7 @@ buffer-copies device i j c p e = reached (buffers-asked (every-buffer-copy devic
 
 pub buffer-texture-copies : BufferTextureCopies
 unfolding leftOf
-buffer-texture-copies c p e w h d = reached (buffer-texture-asked (every-copy c p e w h d .asked _ .1 refl)) (copy-few c p e)
+buffer-texture-copies c p fits e w h d = reached (buffer-texture-asked (every-copy c p fits e w h d .asked _ .1 refl)) (copy-few c p e)
 
 pub empty-copies : EmptyCopies
 unfolding leftOf

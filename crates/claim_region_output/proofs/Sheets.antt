@@ -1,14 +1,15 @@
 -- The listing of a sheet prints, of each accepted copy, the regions that asking its plan gives.
 -- Assumes nothing.
 use Prim.{Unit, tt}
-use mathlib.Core.Path.{_≡_}
-use mathlib.Core.Bool.{Bool, false}
+use mathlib.Core.Path.{_≡_, refl}
+use mathlib.Core.Bool.{Bool, true, false}
+use mathlib.Core.Logic.{_⊎_, inl, inr}
 use mathlib.Core.List.{List, [], _∷_, _++_, append-nil}
-use Prim.Native.Nat.{ℕ, zero, suc, _+_, _-_, _^_, _<_}
+use Prim.Native.Nat.{ℕ, zero, suc, _+_, _-_, _^_, _≤_, _<_}
 use native.Mathlib.Omega.{arith}
 use native.Mathlib.Nat.{mod-lt}
 use lib.Dec.{eqb}
-use lib.ListN.{getD}
+use lib.ListN.{length, getD, replicate}
 use Rattle.refusals.specs.Order.{Checks, first, decided}
 use Rattle.measures.specs.declared.OptionU32.{OptionU32}
 use Rattle.measures.specs.declared.OptionU32.the-variants.{Given, Absent}
@@ -25,12 +26,17 @@ use Rattle.sheet_text.specs.Text.{lineText}
 use Rattle.plan_kinds.specs.Regions.{leftOf}
 use Rattle.copy_kinds.specs.declared.Planned.{Planned}
 use Rattle.copy_kinds.specs.declared.Planned.the-variants as P
-use Rattle.copy_kinds.specs.Planned.{ofBuffers, ofBufferTexture, ofTextures}
+use Rattle.copy_kinds.specs.Planned.{ofBuffers, ofBufferTexture, ofMemory, ofTextures}
 use Rattle.sheet_fields.specs.declared.Line.{Line}
+use Rattle.sheet_fields.specs.declared.Rule.{Rule}
+use Rattle.sheet_fields.specs.Codes.{word, long, rules, ruleOf}
+use Rattle.sheet_fields.specs.Line.{lineValues, Fields, ill, got, fieldsIn, lineWith, lineOf}
+use Rattle.sheet_fields.specs.Laws as F
+use Rattle.sheet_fields.proofs.Fits.{field-laws}
 use Rattle.sheet_sections.specs.declared.Parts.{Parts}
-use Rattle.sheet_sections.specs.Rows.{copies, sectionLine}
+use Rattle.sheet_sections.specs.Rows.{copies, bufferCopyCodes, linearCode, bufferTextureCodes, textureCopyCodes, copyCodes, kindAt, codesOf, sectionLine}
 use Rattle.sheet_records.specs.Records.{valueOf, wordOf, wordOrAbsent, extentOf, originOf, viewOf, layoutOf}
-use Rattle.sheet_copies.specs.CopyLines.{textureSideAt, namedBuffers, buffersPlanned, namedCopy, copyPlanned, namedTextures, texturesPlanned, linePlanned}
+use Rattle.sheet_copies.specs.CopyLines.{textureSideAt, namedBuffers, buffersPlanned, namedCopy, copyPlanned, namedMemory, memoryPlanned, namedTextures, texturesPlanned, linePlanned}
 use Rattle.sheet_lines.specs.Lines.{sheetText, copyText, refusalText, answerText}
 use Rattle.sheet_copies.specs.Answers.{texturePlaces, bufferPlaces, deviceAt, answerAt}
 use Rattle.sheet_listing.specs.Listing.{noPlan, planAnswered, regionsText, copyAnswer, copiesText, listingFrom, listingOf}
@@ -41,7 +47,7 @@ use Rattle.claim_region_output.proofs.Asks.{every-plan-ends}
 use Rattle.claim_region_output.proofs.Prints.{plain, every-plan-prints}
 use Rattle.claim_region_output.proofs.Kept.{Small, Fit, all-told}
 use Rattle.claim_region_output.proofs.Accepted.{Figures, either-way}
-use Rattle.claim_region_output.proofs.Copies.{BuffersFit, buffers-fit, BufferTextureFit, upload-fits, download-fits, TexturesFit, textures-fit}
+use Rattle.claim_region_output.proofs.Copies.{BuffersFit, buffers-fit, BufferTextureFit, upload-fits, memory-fits, download-fits, TexturesFit, textures-fit}
 
 -- ---- the plan of an accepted copy line
 
@@ -62,6 +68,11 @@ of-copy : (i j : ℕ) (a : BufferTexturePlanned) → BufferTextureFit a → Plan
 unfolding PlannedFit ofBufferTexture BufferTextureFit leftOf
 of-copy i j (U.Plan p) h = h
 of-copy i j (U.Refused e) h = tt
+
+of-memory : (i : ℕ) (a : BufferTexturePlanned) → BufferTextureFit a → PlannedFit (ofMemory i a)
+unfolding PlannedFit ofMemory BufferTextureFit leftOf
+of-memory i (U.Plan p) h = h
+of-memory i (U.Refused e) h = tt
 
 of-textures : (i j : ℕ) (a : TexturePlanned) → TexturesFit a → PlannedFit (ofTextures i j a)
 unfolding PlannedFit ofTextures TexturesFit leftOf
@@ -91,7 +102,36 @@ module _ (l : Line) where
   unfolding wordOrAbsent optional
   option-small i = either-way (λ (o : OptionU32). Small (optional o ∷ [])) (eqb (valueOf l i) (2 ^ 64 - 1)) Absent (Given (wordOf l i)) tt (omega (arith, word-few i), tt)
 
-module _ (s ts bs : List ℕ) (device : Device) (l : Line) where
+-- a length, the second value of a copy line, has 64 bits
+abbrev LengthCode : List ℕ → Type 0
+LengthCode codes = (1 < length codes) × (length codes ≤ lineValues) × (ruleOf (getD codes 1 0) .most < 2 ^ 64)
+
+length-code : (kind : ℕ) → LengthCode (copyCodes kind)
+unfolding copyCodes bufferCopyCodes textureCopyCodes bufferTextureCodes linearCode ruleOf rules
+length-code kind =
+    either-way LengthCode (eqb kind 1) _ _ (omega arith, omega arith, omega arith)
+    (either-way LengthCode (eqb kind 4) _ _ (omega arith, omega arith, omega arith)
+    (either-way (λ (code : ℕ). LengthCode (bufferTextureCodes code)) (eqb kind 5) long word (omega arith, omega arith, omega arith) (omega arith, omega arith, omega arith)))
+
+value-few : (r : Rule) (v : ℕ) → r .most < 2 ^ 64 → F.Within r v ⊎ F.Absent r v → v < 2 ^ 64
+value-few r v h (inl w) = omega (arith, h, w .1)
+value-few r v h (inr a) = omega (arith, a .1)
+
+-- an ill line has zeros
+ill-zero : (f : Fields) → lineWith (replicate lineValues 0) 0 f .good ≡ false → getD (lineWith (replicate lineValues 0) 0 f .values) 1 0 ≡ 0
+unfolding lineWith
+ill-zero ill h = refl
+ill-zero (got ws gone next) h = let z : _≡_ {A = ℕ} 0 1 = cc in absurd (omega arith)
+
+length-few : (s : List ℕ) (at : ℕ) → valueOf (sectionLine s copies at) 1 < 2 ^ 64
+unfolding valueOf sectionLine codesOf lineOf
+length-few s at = go (lineOf s (copyCodes (kindAt s at)) at .good) refl
+  where
+    go : (t : Bool) → lineOf s (copyCodes (kindAt s at)) at .good ≡ t → getD (lineOf s (copyCodes (kindAt s at)) at .values) 1 0 < 2 ^ 64
+    go true e = let c = length-code (kindAt s at) in value-few _ _ (c .2) (field-laws .value s (copyCodes (kindAt s at)) at 1 (c .1) e (c .0))
+    go false e = omega (arith, ill-zero (fieldsIn s (copyCodes (kindAt s at)) at false) e)
+
+module _ (s ts bs : List ℕ) (device : Device) (l : Line) (few : valueOf l 1 < 2 ^ 64) where
   -- whatever checks come before it
   decided-fits : (checks : Checks) (rest : Planned) → PlannedFit rest → PlannedFit (decided checks P.Refused rest)
   unfolding decided first
@@ -108,8 +148,12 @@ module _ (s ts bs : List ℕ) (device : Device) (l : Line) where
   copy-line =
       decided-fits _ _
       (either-way PlannedFit (eqb (valueOf l 0) 2) _ _
-      (of-copy _ _ _ (upload-fits device _ _ _ _ _ (figures l 6 11) (option-small l 3) (option-small l 4)))
-      (of-copy _ _ _ (download-fits device _ _ _ _ _ (figures l 6 11) (option-small l 3) (option-small l 4))))
+      (of-copy _ _ _ (upload-fits device _ _ _ _ (figures l 6 11) (option-small l 3) (option-small l 4) _))
+      (of-copy _ _ _ (download-fits device _ _ _ _ (figures l 6 11) (option-small l 3) (option-small l 4) _)))
+
+  memory-line : PlannedFit (memoryPlanned s ts device l)
+  unfolding memoryPlanned namedMemory layoutOf
+  memory-line = decided-fits _ _ (of-memory _ _ (memory-fits device _ _ _ _ (figures l 6 11) (option-small l 3) (option-small l 4) _ few))
 
   textures-line : PlannedFit (texturesPlanned s ts l)
   unfolding texturesPlanned namedTextures textureSideAt
@@ -117,7 +161,7 @@ module _ (s ts bs : List ℕ) (device : Device) (l : Line) where
 
   line-fits : PlannedFit (linePlanned s ts bs device l)
   unfolding linePlanned
-  line-fits = either-way PlannedFit (eqb (valueOf l 0) 1) _ _ buffers-line (either-way PlannedFit (eqb (valueOf l 0) 4) _ _ textures-line copy-line)
+  line-fits = either-way PlannedFit (eqb (valueOf l 0) 1) _ _ buffers-line (either-way PlannedFit (eqb (valueOf l 0) 4) _ _ textures-line (either-way PlannedFit (eqb (valueOf l 0) 5) _ _ memory-line copy-line))
 
 -- ---- a copy's text
 
@@ -140,7 +184,7 @@ module _ (s : List ℕ) (p : Parts) where
   copies-text total zero k at e = none
   copies-text total (suc n) k at e =
       let is : total - suc n ≡ k = omega (arith, e) in
-      rw is (one-copy k _ _ _ (line-fits s _ _ _ (sectionLine s copies at)) (copies-text total n (suc k) (sectionLine s copies at .next) (omega (arith, e))))
+      rw is (one-copy k _ _ _ (line-fits s _ _ _ (sectionLine s copies at) (length-few s at)) (copies-text total n (suc k) (sectionLine s copies at .next) (omega (arith, e))))
 
 pub every-sheet-lists : EverySheetLists
 unfolding listingOf listingFrom sheetText lineText line text

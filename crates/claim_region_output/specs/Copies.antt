@@ -33,10 +33,10 @@ BufferCopies =
     → bufferToBuffer device i (c .src .buffer) (c .src .offset) j (c .dst .buffer) (c .dst .offset) (c .size) ≡ K.Plan p
     → Reaches (Buffers p) (map buffers (O.regionsOf c))
 
--- with a buffer and a texture, of no size of 0, and of one
+-- with a buffer, or memory, and a texture, of no size of 0, and of one
 abbrev pub BufferTextureCopies : Type 0
 BufferTextureCopies =
-    (c : Copy) (p : BufferTexturePlan) → B.planned c ≡ U.Plan p → 0 < c .size .width .0 → 0 < c .size .height .0 → 0 < B.depth c
+    (c : Copy) (p : BufferTexturePlan) → B.LengthFits (c .direction) → B.planned c ≡ U.Plan p → 0 < c .size .width .0 → 0 < c .size .height .0 → 0 < B.depth c
     → Reaches (BufferTexture p) (map bufferTexture (B.regionsOf c))
 
 abbrev pub EmptyCopies : Type 0

@@ -2,7 +2,7 @@
 -- Assumes nothing.
 use mathlib.Core.Path.{_≡_, refl, ap}
 use mathlib.Core.Bool.{true}
-use Prim.Native.Nat.{ℕ, _+_, _*_, _/_, _≤_}
+use Prim.Native.Nat.{ℕ, _+_, _*_, _/_, _^_, _≤_, _<_}
 use native.Mathlib.Omega.{arith}
 use native.Mathlib.Nat.{mul-le-mul, div-le-self}
 use Rattle.measures.specs.declared.Extent3d.{Extent3d}
@@ -17,9 +17,9 @@ use Rattle.formats.specs.Laws.{maxBlockSide, maxBlockBytes}
 use Rattle.formats.proofs.Rows.{every-format}
 use Rattle.records.specs.declared.Texture.{Texture}
 use Rattle.records.specs.Limits.{maxSide}
-use Rattle.records.specs.Bounds.{bufferInBounds, textureInBounds}
+use Rattle.records.specs.Bounds.{textureInBounds}
 use Rattle.records.specs.Extents.{logicalExtent, physicalExtent}
-use Rattle.records.proofs.Bounded.{buffer-laws, texture-laws}
+use Rattle.records.proofs.Bounded.{texture-laws}
 use Rattle.rule_linear_data.specs.Linear as linear
 use Rattle.claim_webgpu_rules.specs.Formats.{formatOf}
 use Rattle.claim_webgpu_rules.specs.WebGpu.{Reading, TexelCopyTexture, blockBytes}
@@ -27,6 +27,7 @@ use Rattle.claim_webgpu_rules.specs.Agreement.{InStandard, Figures}
 use Rattle.claim_webgpu_rules.proofs.Rows.{bytes-are}
 use Rattle.claim_webgpu_rules.proofs.Sizes.{physical-extents}
 use Rattle.copy_buffer_texture.specs.Copy.{Copy}
+use Rattle.copy_buffer_texture.specs.Laws.{byteSize}
 use Rattle.claim_webgpu_copies.specs.WholeCopies.{Compared}
 
 few-bytes : (format : ℕ) (aspect : TextureAspect) → linear.blockBytes format aspect ≤ maxBlockBytes
@@ -51,9 +52,9 @@ rounded t b level =
     (omega (arith, s .width-few, f .width-few), omega (arith, s .height-few, f .height-few))
 
 pub figures-of :
-    (reading : Reading) (c : Copy) → Compared c → InStandard (c .texture .format) (c .view .aspect) → bufferInBounds (c .buffer) ≡ true → textureInBounds (c .texture) ≡ true
-    → TexelCopyTexture reading (c .texture) (c .view) (c .size) → Figures (c .layout) (c .texture .format) (c .view .aspect) (c .size) (c .buffer .size)
-figures-of reading c r i in-buffer in-texture v =
+    (reading : Reading) (c : Copy) → Compared c → InStandard (c .texture .format) (c .view .aspect) → byteSize (c .direction) < 2 ^ 64 → textureInBounds (c .texture) ≡ true
+    → TexelCopyTexture reading (c .texture) (c .view) (c .size) → Figures (c .layout) (c .texture .format) (c .view .aspect) (c .size) (byteSize (c .direction))
+figures-of reading c r i small in-texture v =
     let format = c .texture .format in
     let level = c .view .«mip_level» in
     let f = formatOf format in
@@ -69,7 +70,7 @@ figures-of reading c r i in-buffer in-texture v =
     record {
       bytes-field = r .bytes-field;
       rows-field = r .rows-field;
-      buffer-field = omega (arith, buffer-laws (c .buffer) in-buffer);
+      buffer-field = small;
       width-whole = v .range .width;
       height-whole = v .range .height;
       row-small = omega (arith, row);

@@ -1,4 +1,4 @@
--- Copies between a buffer and a texture against the standard's.
+-- Copies between a buffer, or memory, and a texture against the standard's.
 -- Assumes nothing.
 use mathlib.Core.Path.{_≡_, refl, sym, _∙_}
 use mathlib.Core.Bool.{Bool, true, false, not, _&&_, _||_, cond}
@@ -6,7 +6,8 @@ use mathlib.Core.Logic.{_⊎_, inl, inr, ⊎-elim, _↔_}
 use Prim.Native.Nat.{ℕ, _^_, _<_}
 use native.Mathlib.Omega.{arith}
 use lib.Dec.{eqb}
-use borrow.Author.Tests.{eqb-true}
+use borrow.Author.Tests.{eqb-true, not-false, not-true}
+use Rattle.conditions.proofs.Rules.{not-yes, not-no}
 use Rattle.conditions.proofs.Tables.{everyBelow, at-below}
 use Rattle.flags.specs.Flags.{contains, isOne}
 use Rattle.formats.specs.declared.TextureAspect.{TextureAspect}
@@ -17,28 +18,28 @@ use Rattle.refusals.specs.declared.CopySide.{CopySide}
 use Rattle.refusals.specs.declared.CopySide.the-variants.{Source, Destination}
 use Rattle.refusals.specs.declared.Checked.the-variants as C
 use Rattle.refusals.specs.Order.{checked}
-use Rattle.records.specs.declared.Buffer.{Buffer}
 use Rattle.records.specs.declared.Texture.{Texture}
-use Rattle.records.specs.Bounds.{bufferInBounds, textureInBounds}
+use Rattle.records.specs.Bounds.{textureInBounds}
 use Rattle.records.proofs.Bounded.{buffer-laws}
 use Rattle.rule_copy_range.specs.Range.{rangeChecked}
 use Rattle.rule_copy_range.proofs.Accepted.{range-goes, range-went}
 use Rattle.rule_linear_data.proofs.Accepted.{linear-goes, linear-went}
 use Rattle.rule_formats.specs.Rules.{layoutChecks}
+use Rattle.copy_buffer_texture.specs.declared.UploadSource.the-variants as S
 use Rattle.copy_buffer_texture.specs.Copy.{Direction, Upload, Download, Copy}
-use Rattle.copy_buffer_texture.specs.Plan.{lacksDepthFact, bufferSide, planFor}
+use Rattle.copy_buffer_texture.specs.Plan.{lacksDepthFact, planFor}
 use Rattle.copy_buffer_texture.specs.Plan as planner
-use Rattle.copy_buffer_texture.specs.Laws.{bufferFlag, textureFlag, formatChecks, Accepted}
-use Rattle.copy_buffer_texture.proofs.Accepted.{every-copy-law, as-uploaded, as-downloaded}
+use Rattle.copy_buffer_texture.specs.Laws.{textureFlag, formatChecks, bufferWithin, bufferUsable, aligned, byteSize, Accepted}
+use Rattle.copy_buffer_texture.proofs.Accepted.{every-copy-law, as-uploaded, as-written, as-downloaded}
 use Rattle.claim_webgpu_rules.specs.Formats.{Color, names, formats, Known, formatOf, anyDepthOrStencil, isDepthOrStencil, named}
-use Rattle.claim_webgpu_rules.specs.WebGpu.{Has, BUFFER-COPY-SRC, BUFFER-COPY-DST, TEXTURE-COPY-SRC, TEXTURE-COPY-DST, Reading, WithLayers, OneLayer, TexelCopyTexture}
+use Rattle.claim_webgpu_rules.specs.WebGpu.{Has, TEXTURE-COPY-SRC, TEXTURE-COPY-DST, Reading, WithLayers, OneLayer, TexelCopyTexture, CopyTexels}
 use Rattle.claim_webgpu_rules.specs.Agreement.{bits, GoesOn, InStandard, LinearAgreement, formatRule}
 use Rattle.claim_webgpu_rules.proofs.Rows.{below, row-of}
 use Rattle.claim_webgpu_rules.proofs.TextureRanges.{Excepted, ranges-by, no-layers-left}
 use Rattle.claim_webgpu_rules.proofs.Linears.{linear-rules}
 use Rattle.claim_webgpu_rules.proofs.BufferCopies.{or-rest, one-aspect, buffer-copies}
 use Rattle.claim_webgpu_copies.specs.Bounds.{TextureInBounds}
-use Rattle.claim_webgpu_copies.specs.WholeCopies.{plannedBy, planned, textureIsRead, GivesPlan, StandardCopy, Compared, DepthRestricted, AspectLacking, CopyExcepted, BufferTexture, BufferTextureWithLayers}
+use Rattle.claim_webgpu_copies.specs.WholeCopies.{plannedBy, planned, GivesPlan, StandardBy, StandardCopy, LengthFits, Compared, DepthRestricted, AspectLacking, BufferExcepted, CopyExcepted, BufferTexture, BufferTextureWithLayers}
 use Rattle.claim_webgpu_copies.proofs.Lines.{has-of, has-by, opposite, tested}
 use Rattle.claim_webgpu_copies.proofs.Records.{record-bounds}
 use Rattle.claim_webgpu_copies.proofs.Buffers.{buffer-bounds}
@@ -118,32 +119,58 @@ one-not-none n e = go (eqb n 0) refl
 -- ---- either way
 
 abbrev textureSide : Direction → CopySide
-textureSide Upload = Destination
-textureSide Download = Source
+textureSide (Upload source) = Destination
+textureSide (Download b) = Source
 
--- the standard's words for the flags and the rule of formats
-buffer-has : (d : Direction) (word : ℕ) → contains word (bufferFlag d) ≡ true → Has word (cond (textureIsRead d) BUFFER-COPY-DST BUFFER-COPY-SRC)
-buffer-has Upload word h = has-of word 2 h
-buffer-has Download word h = has-of word 3 h
+abbrev linearSide : Direction → CopySide
+linearSide (Upload source) = Source
+linearSide (Download b) = Destination
 
-buffer-by : (d : Direction) (word : ℕ) → Has word (cond (textureIsRead d) BUFFER-COPY-DST BUFFER-COPY-SRC) → contains word (bufferFlag d) ≡ true
-buffer-by Upload word h = has-by word 2 h
-buffer-by Download word h = has-by word 3 h
+-- the texture is read: texture to buffer
+abbrev textureIsRead : Direction → Bool
+textureIsRead (Upload source) = false
+textureIsRead (Download b) = true
 
+-- the standard's words for the flag and the rule of formats
 texture-has : (d : Direction) (word : ℕ) → contains word (textureFlag d) ≡ true → Has word (cond (textureIsRead d) TEXTURE-COPY-SRC TEXTURE-COPY-DST)
-texture-has Upload word h = has-of word 1 h
-texture-has Download word h = has-of word 0 h
+texture-has (Upload source) word h = has-of word 1 h
+texture-has (Download b) word h = has-of word 0 h
 
 texture-by : (d : Direction) (word : ℕ) → Has word (cond (textureIsRead d) TEXTURE-COPY-SRC TEXTURE-COPY-DST) → contains word (textureFlag d) ≡ true
-texture-by Upload word h = has-by word 1 h
-texture-by Download word h = has-by word 0 h
+texture-by (Upload source) word h = has-by word 1 h
+texture-by (Download b) word h = has-by word 0 h
 
 rule-is : (d : Direction) (format : ℕ) (aspect : TextureAspect) → formatRule (textureIsRead d) format aspect ≡ checked (formatChecks d format aspect)
-rule-is Upload format aspect = refl
-rule-is Download format aspect = refl
+rule-is (Upload source) format aspect = refl
+rule-is (Download b) format aspect = refl
 
-small : (b : Buffer) → bufferInBounds b ≡ true → b .size < 2 ^ 64
-small b h = omega (arith, buffer-laws b h)
+-- a buffer within its bounds, and a block of memory, have fewer than 2 ^ 64 bytes
+small : (d : Direction) → bufferWithin d ≡ true → LengthFits d → byteSize d < 2 ^ 64
+small (Upload (S.Buffer b)) h fits = omega (arith, buffer-laws b h)
+small (Upload (S.Memory length)) h fits = fits
+small (Download b) h fits = omega (arith, buffer-laws b h)
+
+within-by : (d : Direction) → (BufferExcepted d → ⊥) → bufferWithin d ≡ true
+within-by (Upload (S.Buffer b)) kept = buffer-bounds b kept
+within-by (Upload (S.Memory length)) kept = refl
+within-by (Download b) kept = buffer-bounds b kept
+
+-- ---- the standard's rules, by the way
+
+module _ (reading : Reading) (c : Copy) where
+  -- those that all three have
+  abbrev Texels : Direction → Type 0
+  Texels d = CopyTexels reading (textureIsRead d) (aligned d) (byteSize d) (c .layout) (c .texture) (c .view) (c .size)
+
+  standard-by : (d : Direction) → bufferUsable d ≡ true → Texels d → StandardBy reading d c
+  standard-by (Upload (S.Buffer b)) u v = record { buffer-usage = has-of (b .usage .0) 2 (not-false _ (not-true _ u)); texels = v }
+  standard-by (Upload (S.Memory length)) u v = v
+  standard-by (Download b) u v = record { buffer-usage = has-of (b .usage .0) 3 u; texels = v }
+
+  texels-of : (d : Direction) → StandardBy reading d c → (bufferUsable d ≡ true) × Texels d
+  texels-of (Upload (S.Buffer b)) v = (not-yes _ (not-no _ (has-by (b .usage .0) 2 (v .buffer-usage))), v .texels)
+  texels-of (Upload (S.Memory length)) v = (refl, v)
+  texels-of (Download b) v = (has-by (b .usage .0) 3 (v .buffer-usage), v .texels)
 
 module _ (reading : Reading) (c : Copy) (r : Compared c) (kept : CopyExcepted c → ⊥) (whole : Excepted reading (c .texture) (c .view) (c .size) → ⊥) where
   abbrev f : ℕ
@@ -155,8 +182,8 @@ module _ (reading : Reading) (c : Copy) (r : Compared c) (kept : CopyExcepted c 
   abbrev way : Direction
   way = c .direction
 
-  in-buffer : bufferInBounds (c .buffer) ≡ true
-  in-buffer = buffer-bounds (c .buffer) (λ x. kept (inl x))
+  in-buffer : bufferWithin way ≡ true
+  in-buffer = within-by way (λ x. kept (inl x))
 
   in-texture : textureInBounds (c .texture) ≡ true
   in-texture = texture-bounds (c .texture) (λ x. kept (inr (inl x)))
@@ -168,31 +195,34 @@ module _ (reading : Reading) (c : Copy) (r : Compared c) (kept : CopyExcepted c 
   chosen-is = row-of f (r .known) .chosen a
 
   abbrev rules : ℕ → Type 0
-  rules chosen = checked (layoutChecks a chosen (c .texture) (c .layout) true) ≡ C.GoOn
+  rules chosen = checked (layoutChecks a chosen (c .texture) (c .layout) (aligned way)) ≡ C.GoOn
 
   ranges : GoesOn (rangeChecked (c .view) (c .texture) (textureSide way) (c .size)) ↔ TexelCopyTexture reading (c .texture) (c .view) (c .size)
   ranges = ranges-by reading (c .view) (c .texture) (textureSide way) (c .size) (r .known) whole
 
-  linear-rule : TexelCopyTexture reading (c .texture) (c .view) (c .size) → LinearAgreement (c .layout) f a (c .size) (c .buffer .size) (bufferSide way)
-  linear-rule view = linear-rules (c .layout) f a (c .size) (c .buffer .size) (bufferSide way) suited (figures-of reading c r suited in-buffer in-texture view)
+  linear-rule : TexelCopyTexture reading (c .texture) (c .view) (c .size) → LinearAgreement (c .layout) f a (c .size) (byteSize way) (linearSide way)
+  linear-rule view =
+      linear-rules (c .layout) f a (c .size) (byteSize way) (linearSide way) suited (figures-of reading c r suited (small way in-buffer (r .length-field)) in-texture view)
 
   standard-of : Accepted c → StandardCopy reading c
   standard-of p =
       let view = ranges .0 (_, _, range-goes (c .view) (c .texture) (textureSide way) (c .size) (p .range)) in
       let suits : rules (bits (named (formatOf f) a)) = rw (← chosen-is) (p .layout) in
       let format = rule-is way f a ∙ p .format in
-      record {
-        buffer-usage = buffer-has way (c .buffer .usage .0) (p .buffer-usage);
+      standard-by reading c way (p .buffer-usage)
+      (record {
         texture-usage = texture-has way (c .texture .usage .0) (p .texture-usage);
         view-valid = view;
-        suits = buffer-copies (textureIsRead way) true (c .texture) a (c .layout) suited .0 (format, suits);
-        linear = linear-rule view .holds _ (linear-goes (c .layout) f a (c .buffer .size) (bufferSide way) (c .size) (small (c .buffer) in-buffer) (p .linear)) .0;
-      }
+        suits = buffer-copies (textureIsRead way) (aligned way) (c .texture) a (c .layout) suited .0 (format, suits);
+        linear = linear-rule view .holds _ (linear-goes (c .layout) f a (byteSize way) (linearSide way) (c .size) (p .linear)) .0;
+      })
 
   accepted-of : StandardCopy reading c → Accepted c
-  accepted-of v =
-      let rules = buffer-copies (textureIsRead way) true (c .texture) a (c .layout) suited .1 (v .suits) in
-      let one = one-aspect (textureIsRead way) true (c .texture) a (c .layout) suited (v .suits) in
+  accepted-of s =
+      let u = texels-of reading c way s in
+      let v = u .1 in
+      let rules = buffer-copies (textureIsRead way) (aligned way) (c .texture) a (c .layout) suited .1 (v .suits) in
+      let one = one-aspect (textureIsRead way) (aligned way) (c .texture) a (c .layout) suited (v .suits) in
       let g = ranges .1 (v .view-valid) in
       let l = linear-rule (v .view-valid) .goes-on (v .linear) in
       record {
@@ -200,19 +230,24 @@ module _ (reading : Reading) (c : Copy) (r : Compared c) (kept : CopyExcepted c 
         texture-bounds = in-texture;
         range = range-went (c .view) (c .texture) (textureSide way) (c .size) (g .0) (g .1) (g .2) .0;
         chosen = rw chosen-is (one-not-none _ one);
-        buffer-usage = buffer-by way (c .buffer .usage .0) (v .buffer-usage);
+        buffer-usage = u .0;
         texture-usage = texture-by way (c .texture .usage .0) (v .texture-usage);
         format = sym (rule-is way f a) ∙ rules .0;
         layout = rw chosen-is (rules .1);
-        linear = linear-went (c .layout) f a (c .buffer .size) (bufferSide way) (c .size) (l .0) (l .1) .0;
+        linear = linear-went (c .layout) f a (byteSize way) (linearSide way) (c .size) (l .0) (l .1) .0;
         fact = depth-kept c (r .known) (λ x. kept (inr (inr (inl x))));
       }
 
 -- ---- whole copies
 
 -- nothing of an accepted copy is excepted
+buffer-kept : (d : Direction) → bufferWithin d ≡ true → BufferExcepted d → ⊥
+buffer-kept (Upload (S.Buffer b)) h out = out (record-bounds .buffers b .0 h)
+buffer-kept (Upload (S.Memory length)) h out = out
+buffer-kept (Download b) h out = out (record-bounds .buffers b .0 h)
+
 kept-by : (c : Copy) → Known (c .texture .format) → Accepted c → CopyExcepted c → ⊥
-kept-by c k p (inl out) = out (record-bounds .buffers (c .buffer) .0 (p .buffer-bounds))
+kept-by c k p (inl out) = buffer-kept (c .direction) (p .buffer-bounds) out
 kept-by c k p (inr (inl out)) = out (record-bounds .textures (c .texture) .0 (p .texture-bounds))
 kept-by c k p (inr (inr (inl d))) = opposite _ (depth-lacks c k d) (p .fact)
 kept-by c k p (inr (inr (inr a))) = opposite _ (lacks-aspect c k a) (p .chosen)
@@ -221,8 +256,9 @@ planned-is : (c : Copy) → planned c ≡ planner.planned c
 planned-is c = by (c .direction) refl
   where
     by : (d : Direction) → c .direction ≡ d → plannedBy d c ≡ planner.planned c
-    by Upload way = as-uploaded c way
-    by Download way = as-downloaded c way
+    by (Upload (S.Buffer b)) way = as-uploaded c b way
+    by (Upload (S.Memory length)) way = as-written c length way
+    by (Download b) way = as-downloaded c b way
 
 module _ (c : Copy) (r : Compared c) where
   to-standard : (reading : Reading) → (Excepted reading (c .texture) (c .view) (c .size) → ⊥) → GivesPlan (planned c) → StandardCopy reading c × (CopyExcepted c → ⊥)
@@ -240,5 +276,5 @@ copies-agree c r = (to-standard c r OneLayer (λ x. x), λ v. to-plan c r OneLay
 pub copies-agree-with-layers : BufferTextureWithLayers
 copies-agree-with-layers c r = (
   λ g. to-standard c r WithLayers (g .1) (g .0),
-  λ v. let whole = no-layers-left (c .texture) (c .view) (c .size) (v .0 .view-valid) in (to-plan c r WithLayers whole (v .0) (v .1), whole),
+  λ v. let whole = no-layers-left (c .texture) (c .view) (c .size) (texels-of WithLayers c (c .direction) (v .0) .1 .view-valid) in (to-plan c r WithLayers whole (v .0) (v .1), whole),
 )

@@ -1,9 +1,9 @@
 -- Whole copies: the planner answers a plan exactly where the standard's rules hold and nothing is excepted. An exception is in the
 -- standard's words or document 01's.
 use mathlib.Core.Path.{_≡_}
-use mathlib.Core.Bool.{Bool, true, false}
+use mathlib.Core.Bool.{true, false}
 use mathlib.Core.Logic.{_⊎_, _↔_}
-use Prim.Native.Nat.{ℕ}
+use Prim.Native.Nat.{ℕ, _^_, _<_}
 use lib.Dec.{eqb}
 use Rattle.measures.specs.declared.Extent3d.{Extent3d}
 use Rattle.measures.specs.declared.OptionU64.{OptionU64}
@@ -14,6 +14,7 @@ use Rattle.plan_buffers.specs.declared.BufferPlan.{BufferPlan}
 use Rattle.copy_buffers.specs.declared.BufferPlanned.{BufferPlanned}
 use Rattle.copy_buffers.specs.declared.BufferPlanned.the-variants as B
 use Rattle.plan_buffer_texture.specs.declared.BufferTexturePlan.{BufferTexturePlan}
+use Rattle.copy_buffer_texture.specs.declared.UploadSource.the-variants as S
 use Rattle.copy_buffer_texture.specs.declared.BufferTexturePlanned.{BufferTexturePlanned}
 use Rattle.copy_buffer_texture.specs.declared.BufferTexturePlanned.the-variants as T
 use Rattle.copy_buffer_texture.specs.Copy.{Direction, Upload, Download, Copy}
@@ -27,7 +28,7 @@ use Rattle.claim_webgpu_rules.specs.Agreement.{SomeLayers, Fits32, MovesWithin}
 use Rattle.claim_webgpu_copies.specs.Bounds.{BufferInBounds, TextureInBounds}
 -- what is judged
 use Rattle.copy_buffers.specs.Plan.{bufferToBuffer}
-use Rattle.copy_buffer_texture.specs.Plan.{bufferToTexture, textureToBuffer}
+use Rattle.copy_buffer_texture.specs.Plan.{bufferToTexture, memoryToTexture, textureToBuffer}
 use Rattle.copy_textures.specs.Plan.{textureToTexture}
 
 -- ---- buffer to buffer
@@ -54,31 +55,40 @@ BufferToBuffer =
     → GivesBufferPlan (bufferToBuffer device i src srcOffset j dst dstOffset size)
     ↔ (W.CopyBufferToBuffer (eqb i j) src dst srcOffset dstOffset (W.copySizeOf src srcOffset size) × (BuffersExcepted device src dst → ⊥))
 
--- ---- between a buffer and a texture
+-- ---- between a buffer, or memory, and a texture
 
 abbrev pub plannedBy : Direction → Copy → BufferTexturePlanned
-plannedBy Upload c = bufferToTexture (c .device) (c .buffer) (c .layout) (c .texture) (c .view) (c .size)
-plannedBy Download c = textureToBuffer (c .device) (c .texture) (c .view) (c .buffer) (c .layout) (c .size)
+plannedBy (Upload (S.Buffer b)) c = bufferToTexture (c .device) b (c .layout) (c .texture) (c .view) (c .size)
+plannedBy (Upload (S.Memory length)) c = memoryToTexture (c .device) length (c .layout) (c .texture) (c .view) (c .size)
+plannedBy (Download b) c = textureToBuffer (c .device) (c .texture) (c .view) b (c .layout) (c .size)
 
 abbrev pub planned : Copy → BufferTexturePlanned
 planned c = plannedBy (c .direction) c
 
--- the texture is read: texture to buffer
-abbrev pub textureIsRead : Direction → Bool
-textureIsRead Upload = false
-textureIsRead Download = true
-
 abbrev pub GivesPlan : BufferTexturePlanned → Type 0
 GivesPlan r = (p : BufferTexturePlan) × (r ≡ T.Plan p)
 
-abbrev pub StandardCopy : W.Reading → Copy → Type 0
-StandardCopy reading c = W.CopyBufferTexture reading (textureIsRead (c .direction)) (c .buffer) (c .layout) (c .texture) (c .view) (c .size)
+-- the standard's rules by the way: copyBufferToTexture(), writeTexture(), copyTextureToBuffer()
+abbrev pub StandardBy : W.Reading → Direction → Copy → Type 0
+StandardBy reading (Upload (S.Buffer b)) c = W.CopyBufferTexture reading false b (c .layout) (c .texture) (c .view) (c .size)
+StandardBy reading (Upload (S.Memory length)) c = W.WriteTexture reading length (c .layout) (c .texture) (c .view) (c .size)
+StandardBy reading (Download b) c = W.CopyBufferTexture reading true b (c .layout) (c .texture) (c .view) (c .size)
 
--- what is compared: formats of the standard, and figures as their 32-bit fields hold them
+abbrev pub StandardCopy : W.Reading → Copy → Type 0
+StandardCopy reading c = StandardBy reading (c .direction) c
+
+-- a block of memory has a length of 64 bits
+abbrev pub LengthFits : Direction → Type 0
+LengthFits (Upload (S.Buffer b)) = Unit {0}
+LengthFits (Upload (S.Memory length)) = length < 2 ^ 64
+LengthFits (Download b) = Unit {0}
+
+-- what is compared: formats of the standard, and figures as their fields of 32 or 64 bits hold them
 pub record Compared (c : Copy) : Type 0 where
   pub known : Known (c .texture .format)
   pub bytes-field : Fits32 (c .layout .«bytes_per_row»)
   pub rows-field : Fits32 (c .layout .«rows_per_image»)
+  pub length-field : LengthFits (c .direction)
 
 -- exception, 34: a depth-or-stencil format without the fact
 abbrev pub DepthRestricted : Copy → Type 0
@@ -88,9 +98,15 @@ DepthRestricted c = (isDepthOrStencil (c .texture .format) ≡ true) × (c .devi
 abbrev pub AspectLacking : Copy → Type 0
 AspectLacking c = (isDepthOrStencil (c .texture .format) ≡ false) × (c .view .aspect ≡ All → ⊥)
 
+-- exception, 3: a buffer out of document 01's bounds; memory has none
+abbrev pub BufferExcepted : Direction → Type 0
+BufferExcepted (Upload (S.Buffer b)) = BufferInBounds b → ⊥
+BufferExcepted (Upload (S.Memory length)) = ⊥
+BufferExcepted (Download b) = BufferInBounds b → ⊥
+
 -- what the planner refuses beyond the standard
 abbrev pub CopyExcepted : Copy → Type 0
-CopyExcepted c = (BufferInBounds (c .buffer) → ⊥) ⊎ ((TextureInBounds (c .texture) → ⊥) ⊎ (DepthRestricted c ⊎ AspectLacking c))
+CopyExcepted c = BufferExcepted (c .direction) ⊎ ((TextureInBounds (c .texture) → ⊥) ⊎ (DepthRestricted c ⊎ AspectLacking c))
 
 -- the whole size of a texture that is copied whole is that of one layer
 abbrev pub BufferTexture : Type 0

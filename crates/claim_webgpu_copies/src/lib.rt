@@ -14,7 +14,7 @@ pub fn buffer_to_buffer_agrees()
     ensures { λ _. ⌜ BufferToBuffer ⌝ }
 {}
 
-// The same of a copy between a buffer and a texture, either way, by each reading of the whole size.
+// The same of a copy between a buffer, or memory, and a texture, by each reading of the whole size.
 pub fn buffer_texture_agrees()
     ensures one_layer { λ _. ⌜ BufferTexture ⌝ }
     ensures layers { λ _. ⌜ BufferTextureWithLayers ⌝ }

@@ -1,4 +1,4 @@
--- Between a buffer and a texture, either way: the regions put the blocks where the standard's copy has them, and no others.
+-- Between a buffer, or memory, and a texture: the regions put the blocks where the standard's copy has them, and no others.
 -- Assumes nothing.
 use mathlib.Core.Path.{_≡_, refl, sym, ap, _∙_}
 use mathlib.Core.Bool.{Bool, true, false, _||_}
@@ -17,7 +17,6 @@ use Rattle.mip_levels.specs.declared.TextureDimension.the-variants.{D1, D2, D3}
 use Rattle.mip_levels.specs.Level as L
 use Rattle.formats.specs.Table as F
 use Rattle.formats.proofs.Rows.{every-format}
-use Rattle.records.proofs.Bounded.{buffer-laws}
 use Rattle.rule_copy_range.specs.Range as R
 use Rattle.rule_copy_range.specs.Range.{copyExtent, arrayLayerCount}
 use Rattle.rule_linear_data.specs.declared.Dense.{Dense}
@@ -34,7 +33,9 @@ use Rattle.claim_webgpu_rules.proofs.Rows.{row-of}
 use Rattle.claim_webgpu_rules.proofs.Sizes.{dimension-is}
 use Rattle.copy_buffer_texture.specs.Copy.{Copy}
 use Rattle.copy_buffer_texture.specs.Plan.{planFor}
+use Rattle.claim_ownership.specs.Copy.{LengthFits}
 use Rattle.claim_ownership.proofs.Accepted.{Checks, checks-of}
+use Rattle.claim_ownership.proofs.Sound.{size-is, sound-of}
 use Rattle.claim_ownership.proofs.Asks.{nextRegions, gives, gives-only}
 use Rattle.claim_webgpu_effects.specs.Blocks.{TexelBlock, In}
 use Rattle.claim_webgpu_effects.specs.Standard.{layerOf, Stands}
@@ -64,7 +65,7 @@ or-right : (s t : Bool) → t ≡ true → (s || t) ≡ true
 or-right true t e = refl
 or-right false t e = e
 
-module _ (c : Copy) (p : BufferTexturePlan) (k : Checks c p) (known : Known (c .texture .format)) where
+module _ (c : Copy) (p : BufferTexturePlan) (k : Checks c p) (fits : LengthFits (c .direction)) (known : Known (c .texture .format)) where
   abbrev plan : BufferTexturePlan
   plan = planFor c
 
@@ -120,10 +121,11 @@ module _ (c : Copy) (p : BufferTexturePlan) (k : Checks c p) (known : Known (c .
   unwrapped m h =
       let s = some-left m h in
       let n = few v z d m deep (s .0) (s .1) in
-      let small = buffer-laws (c .buffer) (k .accepted .buffer-bounds) in
+      let small = sound-of c p k fits .small in
+      let inside = rw (size-is (c .direction)) at (k .accepted .linear .inside) in
       let rows : m * plan .stride ≤ (d - 1) * plan .stride = mul-le-mul-right (plan .stride) (omega (arith, n .0)) in
       let total = stacked-some d (plan .stride) (imageBytes (c .layout) dense) (s .0) in
-      (omega (arith, k .accepted .linear .inside, total), n .1)
+      (omega (arith, inside, total), n .1)
 
   -- ---- a region's block is the standard's
 
@@ -228,4 +230,4 @@ module _ (c : Copy) (p : BufferTexturePlan) (k : Checks c p) (known : Known (c .
       }
 
 pub every-buffer-copy : BufferEffects
-every-buffer-copy c p e known = let k = checks-of c p e in rw (← k .plan) (all c p k known)
+every-buffer-copy c p fits e known = let k = checks-of c p e in rw (← k .plan) (all c p k fits known)

@@ -1,4 +1,4 @@
--- The regions of a plan of a copy with a buffer, by number.
+-- The regions of a plan of a copy with a buffer, or from memory, by number.
 -- Assumes nothing.
 use mathlib.Core.Path.{_≡_, sym, ap, _∙_}
 use Prim.Native.Nat.{ℕ, zero, suc, _+_, _*_, _%_, _^_, _<_}

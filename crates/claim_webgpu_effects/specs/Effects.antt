@@ -22,7 +22,7 @@ use Rattle.claim_webgpu_effects.specs.Blocks.{TexelBlock, In}
 use Rattle.claim_webgpu_effects.specs.Standard.{Stands, Copies}
 use Rattle.claim_webgpu_effects.specs.Regions.{Puts, Carries}
 
--- ---- between a buffer and a texture
+-- ---- between a buffer, or memory, and a texture
 
 -- some region of the list puts the block at the byte, or takes it from there
 abbrev pub PutBy : Copy → List BufferTextureCopy → TexelBlock → ℕ → Type 0
@@ -33,9 +33,9 @@ pub record BufferDoes (c : Copy) (p : BufferTexturePlan) : Type 0 where
   pub ends : (rs : List BufferTextureCopy) × Gives p rs
   pub does : (rs : List BufferTextureCopy) → Gives p rs → (b : TexelBlock) (byte : ℕ) → PutBy c rs b byte ↔ Stands c b byte
 
--- of every accepted copy, either way, of a format of the standard, sizes of 0 included
+-- of every accepted copy, from a buffer, from memory or into a buffer, of a format of the standard, sizes of 0 included
 abbrev pub BufferEffects : Type 0
-BufferEffects = (c : Copy) (p : BufferTexturePlan) → B.planned c ≡ Plan p → Known (c .texture .format) → BufferDoes c p
+BufferEffects = (c : Copy) (p : BufferTexturePlan) → B.LengthFits (c .direction) → B.planned c ≡ Plan p → Known (c .texture .format) → BufferDoes c p
 
 -- ---- between textures
 

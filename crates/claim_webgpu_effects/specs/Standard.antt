@@ -35,7 +35,7 @@ blockAt t view aspect i j k =
       y = view .origin .y .0 + j * formatOf (t .format) .blockHeight;
     }
 
--- ---- between a buffer and a texture
+-- ---- between a buffer, or memory ("writeTexture()"), and a texture
 
 -- the block stands at the byte: of an aspect that the view names, in column i and row j of image k
 pub record Stands (c : Copy) (b : TexelBlock) (byte : ℕ) : Type 0 where

@@ -3,7 +3,7 @@
 ghost use Rattle.claim_webgpu_effects.specs.Effects.{BufferEffects, TextureEffects};
 ghost use Rattle.claim_webgpu_effects.specs.Mixed.{SlicesIntoLayers, LayersIntoSlices, ImagesMissed, TheyDiffer, MixedAccepted, Exhaustive};
 
-// Between a buffer and a texture, either way.
+// Between a buffer, or memory, and a texture.
 pub fn buffer_effects()
     ensures { λ _. ⌜ BufferEffects ⌝ }
 {}

@@ -205,7 +205,7 @@ module _ (layout : TexelCopyBufferLayout) (format : ℕ) (aspect : TextureAspect
       let row = fits32 (layout .«bytes_per_row») (d .«row_bytes») (f .bytes-field) row-small in
       let high-rows = fits32 (layout .«rows_per_image») (d .rows .0) (f .rows-field) rows-small in (
         linearData layout d,
-        linear-goes layout format aspect bufferSize side size (f .buffer-field)
+        linear-goes layout format aspect bufferSize side size
             (record {
               row-fits = or-else (layout .«bytes_per_row») (d .«row_bytes») (rw wide (v .row-fits));
               rows-fit = or-else (layout .«rows_per_image») (d .rows .0) (rw high (v .image-fits));
@@ -214,6 +214,7 @@ module _ (layout : TexelCopyBufferLayout) (format : ℕ) (aspect : TextureAspect
               inside = rw t (v .inside);
               stride-fits = let p = product (imageRows layout d) (rowStride layout d) high-rows row in omega arith;
               image-fits = stacked-fits (d .rows .0) (rowStride layout d) (d .«row_bytes») rows-small row row-small;
+              total-fits = let inside : layout .offset + totalBytes layout d ≤ bufferSize = rw t (v .inside) in omega (arith, f .buffer-field);
             }),
       )
     where

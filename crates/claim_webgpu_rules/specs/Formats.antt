@@ -13,7 +13,7 @@ use Rattle.formats.specs.declared.TextureAspect.the-variants.{All, StencilOnly,
 pub data Aspect : Type 0 where
   Color Depth Stencil : Aspect
 
--- one aspect of a format: the bytes of a block in a copy ("texel block copy footprint"), and whether a copy with a buffer may have it
+-- one aspect of a format: the bytes of a block in a copy ("texel block copy footprint"), and whether a copy with a buffer or memory may have it
 -- as its source and as its destination
 pub record Part : Type 0 where
   pub aspect : Aspect

@@ -138,7 +138,7 @@ module _ (layout : TexelCopyBufferLayout) (widthInBlocks heightInBlocks blockByt
 
 -- ---- "validating texture buffer copy", "validating GPUTexelCopyBufferInfo"
 
--- the aspects that a copy with a buffer takes: of a depth-or-stencil format those that the view names; of any other the rule does not
+-- the aspects that a copy with a buffer, or from memory, takes: of a depth-or-stencil format those that the view names; of any other the rule does not
 -- look at the view's aspect
 unfoldable pub taken : ℕ → TextureAspect → List Part
 taken format asked = cond (isDepthOrStencil format) (named (formatOf format) asked) (formatOf format .parts)
@@ -169,7 +169,7 @@ pub record TextureBufferCopy (reads aligned : Bool) (t : Texture) (aspect : Text
   pub allowed : validOne reads (taken (t .format) aspect) ≡ true
   pub layout-aligned : aligned ≡ true → AlignedLayout (t .format) aspect layout
 
--- ---- "copyBufferToTexture()", "copyTextureToBuffer()"
+-- ---- "validating texture buffer copy" as a whole, "copyBufferToTexture()", "copyTextureToBuffer()", "writeTexture()"
 
 -- linear texture data of a copy's box, in whole blocks of the format
 abbrev pub LinearBox : Texture → TextureAspect → TexelCopyBufferLayout → Extent3d → ℕ → Type 0
@@ -177,13 +177,21 @@ LinearBox t aspect layout copySize byteSize =
     LinearTextureData layout (copySize .width .0 / formatOf (t .format) .blockWidth) (copySize .height .0 / formatOf (t .format) .blockHeight)
     (blockBytes (t .format) aspect) (copySize .«depth_or_array_layers») byteSize
 
--- `reads` where the texture is read: texture to buffer
-pub record CopyBufferTexture (reading : Reading) (reads : Bool) (b : Buffer) (layout : TexelCopyBufferLayout) (t : Texture) (view : TexelCopyTextureInfo) (copySize : Extent3d) : Type 0 where
-  pub buffer-usage : Has (b .usage .0) (cond reads BUFFER-COPY-DST BUFFER-COPY-SRC)
+-- `reads` where the texture is read: texture to buffer; `aligned` where the offset and the bytes per row are held to multiples
+pub record CopyTexels (reading : Reading) (reads aligned : Bool) (dataLength : ℕ) (layout : TexelCopyBufferLayout) (t : Texture) (view : TexelCopyTextureInfo) (copySize : Extent3d) : Type 0 where
   pub texture-usage : Has (t .usage .0) (cond reads TEXTURE-COPY-SRC TEXTURE-COPY-DST)
   pub view-valid : TexelCopyTexture reading t view copySize
-  pub suits : TextureBufferCopy reads true t (view .aspect) layout
-  pub linear : LinearBox t (view .aspect) layout copySize (b .size)
+  pub suits : TextureBufferCopy reads aligned t (view .aspect) layout
+  pub linear : LinearBox t (view .aspect) layout copySize dataLength
+
+-- with a buffer, which has its own usage
+pub record CopyBufferTexture (reading : Reading) (reads : Bool) (b : Buffer) (layout : TexelCopyBufferLayout) (t : Texture) (view : TexelCopyTextureInfo) (copySize : Extent3d) : Type 0 where
+  pub buffer-usage : Has (b .usage .0) (cond reads BUFFER-COPY-DST BUFFER-COPY-SRC)
+  pub texels : CopyTexels reading reads true (b .size) layout t view copySize
+
+-- from data in memory, of which only the length is looked at, not aligned
+abbrev pub WriteTexture : Reading → ℕ → TexelCopyBufferLayout → Texture → TexelCopyTextureInfo → Extent3d → Type 0
+WriteTexture reading dataLength layout t view copySize = CopyTexels reading false false dataLength layout t view copySize
 
 -- ---- "copyBufferToBuffer()"
 

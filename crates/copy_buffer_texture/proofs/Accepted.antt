@@ -3,31 +3,32 @@
 use mathlib.Core.Path.{_≡_, refl, sym, ap, _∙_}
 use mathlib.Core.Bool.{true, false}
 use mathlib.Core.List.{[], flatten}
-use Prim.Native.Nat.{ℕ, _^_, _<_}
+use Prim.Native.Nat.{ℕ}
 use native.Mathlib.Omega.{arith}
 use lib.Dec.{eqb}
-use borrow.Author.Tests.{not-false, lt-leb}
-use Rattle.conditions.proofs.Rules.{not-no}
+use borrow.Author.Tests.{not-false, not-true, lt-leb}
+use Rattle.conditions.proofs.Rules.{not-yes, not-no}
 use Rattle.refusals.specs.declared.TransferError.{TransferError}
 use Rattle.refusals.specs.declared.CopySide.{CopySide}
 use Rattle.refusals.specs.declared.CopySide.the-variants.{Source, Destination}
 use Rattle.refusals.specs.Order.{decided}
 use Rattle.refusals.proofs.Order.{none-found, all-pass, none-in, flat-empty, test-fails, test-off, checked-passes, passes-checked}
 use Rattle.records.specs.declared.Buffer.{Buffer}
-use Rattle.records.specs.Bounds.{bufferInBounds}
-use Rattle.records.proofs.Bounded.{buffer-laws}
 use Rattle.records.proofs.Checked.{buffer-of, buffer-passes, texture-of, texture-passes}
 use Rattle.rule_copy_range.specs.Range.{rangeChecks}
 use Rattle.rule_copy_range.proofs.Accepted.{every-range}
 use Rattle.rule_linear_data.specs.Linear.{linearChecks}
+use Rattle.rule_linear_data.specs.Laws.{LinearLaws}
 use Rattle.rule_linear_data.proofs.Accepted.{every-linear}
 use Rattle.rule_selectors.specs.Selector.{selectorChecks}
 use Rattle.plan_buffer_texture.specs.declared.BufferTexturePlan.{BufferTexturePlan}
+use Rattle.copy_buffer_texture.specs.declared.UploadSource.{UploadSource}
+use Rattle.copy_buffer_texture.specs.declared.UploadSource.the-variants as S
 use Rattle.copy_buffer_texture.specs.declared.BufferTexturePlanned.{BufferTexturePlanned}
 use Rattle.copy_buffer_texture.specs.declared.BufferTexturePlanned.the-variants as P
 use Rattle.copy_buffer_texture.specs.Copy.{Direction, Upload, Download, Copy}
-use Rattle.copy_buffer_texture.specs.Plan.{aspects, dense, uploadChecks, downloadChecks, checksOf, planFor, planned, bufferToTexture, textureToBuffer}
-use Rattle.copy_buffer_texture.specs.Laws.{Accepted, CopyLaw, EveryCopyLaw}
+use Rattle.copy_buffer_texture.specs.Plan.{aspects, dense, sourceChecks, sourceSize, uploadChecks, downloadChecks, checksOf, planFor, planned, bufferToTexture, memoryToTexture, textureToBuffer}
+use Rattle.copy_buffer_texture.specs.Laws.{sourceInBounds, Accepted, CopyLaw, EveryCopyLaw}
 
 no-plan : (p : BufferTexturePlan) (e : TransferError) → P.Refused e ≡ P.Plan p → ⊥
 no-plan p e h = let z : _≡_ {A = ℕ} 0 1 = cc in omega arith
@@ -44,9 +45,16 @@ chosen-passes : (c : Copy) → eqb (aspects c) 0 ≡ false → flatten (selector
 unfolding selectorChecks
 chosen-passes c h = flat-empty (selectorChecks (c .view) (c .texture)) (test-off _ _ h, tt)
 
--- a buffer's size is far below 2 ^ 64
-small : (b : Buffer) → bufferInBounds b ≡ true → b .size < 2 ^ 64
-small b h = omega (arith, buffer-laws b h)
+-- ---- what is asked of a source, as checks and as laws
+
+source-of : (source : UploadSource) → flatten (sourceChecks source) ≡ [] → sourceInBounds source ≡ true
+source-of (S.Buffer b) h = buffer-of b Source h
+source-of (S.Memory length) h = refl
+
+source-passes : (source : UploadSource) → sourceInBounds source ≡ true → flatten (sourceChecks source) ≡ []
+unfolding flatten
+source-passes (S.Buffer b) h = buffer-passes b Source h
+source-passes (S.Memory length) h = refl
 
 -- ---- each way
 
@@ -58,37 +66,40 @@ module _ (c : Copy) where
   range-passes : (side : CopySide) → Accepted c → flatten (rangeChecks (c .view) (c .texture) side (c .size)) ≡ []
   range-passes side a = every-range (c .view) (c .texture) side (c .size) .passes (a .range)
 
-  linear-passes : (side : CopySide) → Accepted c → flatten (linearChecks (c .layout) (c .buffer .size) side (dense c)) ≡ []
-  linear-passes side a = every-linear .rule (c .layout) (c .buffer .size) side (dense c) .passes (small (c .buffer) (a .buffer-bounds)) (a .linear)
+  linear-passes : (side : CopySide) (n : ℕ) → LinearLaws (c .layout) n (dense c) → flatten (linearChecks (c .layout) n side (dense c)) ≡ []
+  linear-passes side n l = every-linear .rule (c .layout) n side (dense c) .passes l
 
-  upload-of : c .direction ≡ Upload → (p : BufferTexturePlan) → decided (uploadChecks c) P.Refused plan ≡ P.Plan p → Accepted c × (planFor c ≡ p)
+  upload-of : (source : UploadSource) → c .direction ≡ Upload source → (p : BufferTexturePlan) → decided (uploadChecks source c) P.Refused plan ≡ P.Plan p → Accepted c × (planFor c ≡ p)
   unfolding uploadChecks
-  upload-of way p h =
-      let f = none-found BufferTexturePlanned P.Refused plan (uploadChecks c) (P.Plan p) h (no-plan p) in
+  upload-of source way p h =
+      let f = none-found BufferTexturePlanned P.Refused plan (uploadChecks source c) (P.Plan p) h (no-plan p) in
       let n = f .0 in (
         record {
-          buffer-bounds = buffer-of (c .buffer) Source (n 0);
+          buffer-bounds = rw way (source-of source (n 0));
           texture-bounds = texture-of (c .texture) Destination (n 1);
           range = every-range (c .view) (c .texture) Destination (c .size) .holds (n 2);
           chosen = chosen-of c (n 3);
-          buffer-usage = rw way (not-false _ (test-fails _ _ (n 4)));
+          buffer-usage = rw way (not-yes _ (test-fails _ _ (n 4)));
           texture-usage = rw way (not-false _ (test-fails _ _ (n 5)));
           format = rw way (passes-checked _ (n 6));
-          layout = passes-checked _ (n 7);
-          linear = every-linear .rule (c .layout) (c .buffer .size) Source (dense c) .holds (n 8);
+          layout = rw way (passes-checked _ (n 7));
+          linear = rw way (every-linear .rule (c .layout) (sourceSize source) Source (dense c) .holds (n 8));
           fact = test-fails _ _ (n 9);
         },
         same-plan (f .1),
       )
 
-  upload : c .direction ≡ Upload → Accepted c → decided (uploadChecks c) P.Refused plan ≡ plan
+  upload : (source : UploadSource) → c .direction ≡ Upload source → Accepted c → decided (uploadChecks source c) P.Refused plan ≡ plan
   unfolding uploadChecks
-  upload way a =
+  upload source way a =
+      let r = a .buffer-bounds in
       let b = a .buffer-usage in
       let t = a .texture-usage in
       let f = a .format in
-      all-pass BufferTexturePlanned P.Refused plan (uploadChecks c) (
-        buffer-passes (c .buffer) Source (a .buffer-bounds),
+      let l = a .layout in
+      let m = a .linear in
+      all-pass BufferTexturePlanned P.Refused plan (uploadChecks source c) (
+        source-passes source (rw way at r),
         (
           texture-passes (c .texture) Destination (a .texture-bounds),
           (
@@ -96,15 +107,15 @@ module _ (c : Copy) where
             (
               chosen-passes c (a .chosen),
               (
-                test-off _ _ (not-no _ (rw way at b)),
+                test-off _ _ (not-true _ (rw way at b)),
                 (
                   test-off _ _ (not-no _ (rw way at t)),
                   (
                     checked-passes _ (rw way at f),
                     (
-                      checked-passes _ (a .layout),
+                      checked-passes _ (rw way at l),
                       (
-                        linear-passes Source a,
+                        linear-passes Source (sourceSize source) (rw way at m),
                         (
                           test-off _ _ (a .fact),
                           tt,
@@ -119,37 +130,40 @@ module _ (c : Copy) where
         ),
       )
 
-  download-of : c .direction ≡ Download → (p : BufferTexturePlan) → decided (downloadChecks c) P.Refused plan ≡ P.Plan p → Accepted c × (planFor c ≡ p)
+  download-of : (b : Buffer) → c .direction ≡ Download b → (p : BufferTexturePlan) → decided (downloadChecks b c) P.Refused plan ≡ P.Plan p → Accepted c × (planFor c ≡ p)
   unfolding downloadChecks
-  download-of way p h =
-      let f = none-found BufferTexturePlanned P.Refused plan (downloadChecks c) (P.Plan p) h (no-plan p) in
+  download-of b way p h =
+      let f = none-found BufferTexturePlanned P.Refused plan (downloadChecks b c) (P.Plan p) h (no-plan p) in
       let n = f .0 in (
         record {
-          buffer-bounds = buffer-of (c .buffer) Destination (n 1);
+          buffer-bounds = rw way (buffer-of b Destination (n 1));
           texture-bounds = texture-of (c .texture) Source (n 0);
           range = every-range (c .view) (c .texture) Source (c .size) .holds (n 2);
           chosen = chosen-of c (n 3);
           buffer-usage = rw way (not-false _ (test-fails _ _ (n 10)));
           texture-usage = rw way (not-false _ (test-fails _ _ (n 4)));
           format = rw way (passes-checked _ (n 6));
-          layout = passes-checked _ (n 7);
-          linear = every-linear .rule (c .layout) (c .buffer .size) Destination (dense c) .holds (n 8);
+          layout = rw way (passes-checked _ (n 7));
+          linear = rw way (every-linear .rule (c .layout) (b .size) Destination (dense c) .holds (n 8));
           fact = test-fails _ _ (n 9);
         },
         same-plan (f .1),
       )
 
-  download : c .direction ≡ Download → Accepted c → decided (downloadChecks c) P.Refused plan ≡ plan
+  download : (b : Buffer) → c .direction ≡ Download b → Accepted c → decided (downloadChecks b c) P.Refused plan ≡ plan
   unfolding downloadChecks
-  download way a =
+  download buffer way a =
+      let r = a .buffer-bounds in
       let b = a .buffer-usage in
       let t = a .texture-usage in
       let f = a .format in
+      let l = a .layout in
+      let m = a .linear in
       let level = a .range .level in
-      all-pass BufferTexturePlanned P.Refused plan (downloadChecks c) (
+      all-pass BufferTexturePlanned P.Refused plan (downloadChecks buffer c) (
         texture-passes (c .texture) Source (a .texture-bounds),
         (
-          buffer-passes (c .buffer) Destination (a .buffer-bounds),
+          buffer-passes buffer Destination (rw way at r),
           (
             range-passes Source a,
             (
@@ -161,9 +175,9 @@ module _ (c : Copy) where
                   (
                     checked-passes _ (rw way at f),
                     (
-                      checked-passes _ (a .layout),
+                      checked-passes _ (rw way at l),
                       (
-                        linear-passes Destination a,
+                        linear-passes Destination (buffer .size) (rw way at m),
                         (
                           test-off _ _ (a .fact),
                           (
@@ -186,18 +200,26 @@ module _ (c : Copy) where
   planned-by d way = ap (λ (e : Direction). decided (checksOf e c) P.Refused plan) way
 
   either-way : (d : Direction) → c .direction ≡ d → CopyLaw c
-  either-way Upload way = record { has-plan = λ a. planned-by Upload way ∙ upload way a; is-accepted = λ p h. upload-of way p (sym (planned-by Upload way) ∙ h) }
-  either-way Download way = record { has-plan = λ a. planned-by Download way ∙ download way a; is-accepted = λ p h. download-of way p (sym (planned-by Download way) ∙ h) }
+  either-way (Upload source) way =
+      let q = planned-by (Upload source) way in
+      record { has-plan = λ a. q ∙ upload source way a; is-accepted = λ p h. upload-of source way p (sym q ∙ h) }
+  either-way (Download b) way =
+      let q = planned-by (Download b) way in
+      record { has-plan = λ a. q ∙ download b way a; is-accepted = λ p h. download-of b way p (sym q ∙ h) }
 
 pub every-copy-law : EveryCopyLaw
 every-copy-law c = either-way c (c .direction) refl
 
 -- ---- a copy is planned by the function of its way
 
-pub as-uploaded : (c : Copy) → c .direction ≡ Upload → bufferToTexture (c .device) (c .buffer) (c .layout) (c .texture) (c .view) (c .size) ≡ planned c
+pub as-uploaded : (c : Copy) (b : Buffer) → c .direction ≡ Upload (S.Buffer b) → bufferToTexture (c .device) b (c .layout) (c .texture) (c .view) (c .size) ≡ planned c
 unfolding bufferToTexture
-as-uploaded c way = rw (← way) refl
+as-uploaded c b way = rw (← way) refl
 
-pub as-downloaded : (c : Copy) → c .direction ≡ Download → textureToBuffer (c .device) (c .texture) (c .view) (c .buffer) (c .layout) (c .size) ≡ planned c
+pub as-written : (c : Copy) (length : ℕ) → c .direction ≡ Upload (S.Memory length) → memoryToTexture (c .device) length (c .layout) (c .texture) (c .view) (c .size) ≡ planned c
+unfolding memoryToTexture
+as-written c length way = rw (← way) refl
+
+pub as-downloaded : (c : Copy) (b : Buffer) → c .direction ≡ Download b → textureToBuffer (c .device) (c .texture) (c .view) b (c .layout) (c .size) ≡ planned c
 unfolding textureToBuffer
-as-downloaded c way = rw (← way) refl
+as-downloaded c b way = rw (← way) refl

@@ -1,6 +1,6 @@
 -- The same answers as the functions between the first check and the plan give them. Only the contracts of private functions cite this: no caller need
 -- read it.
-use Prim.Native.Nat.{ℕ}
+use Prim.Native.Nat.{ℕ, _^_, _<_}
 use mathlib.Core.Bool.{true, not}
 use lib.Dec.{leb}
 use Rattle.conditions.specs.Conditions.{stop-if, _$_}
@@ -24,44 +24,58 @@ use Rattle.rule_linear_data.specs.Linear.{linearChecked}
 use Rattle.rule_formats.specs.Rules.{srcFormatChecks, dstFormatChecks, layoutChecks}
 use Rattle.rule_selectors.specs.declared.TextureCopyBase.{TextureCopyBase}
 use Rattle.rule_selectors.specs.Selector.{selectorChecked}
-use Rattle.rule_init_ranges.specs.Init.{srcTextureRange, dstTextureRange}
+use Rattle.rule_init_ranges.specs.Init.{srcTextureRange, dstTextureRange, bufferInit}
 use Rattle.rule_answers.specs.Stages.{after, after-range, after-selector, after-linear}
 use Rattle.plan_buffer_texture.specs.Plan.{planOf}
+use Rattle.copy_buffer_texture.specs.declared.UploadSource.{UploadSource}
+use Rattle.copy_buffer_texture.specs.declared.UploadSource.the-variants as S
 use Rattle.copy_buffer_texture.specs.declared.BufferTexturePlanned.{BufferTexturePlanned}
 use Rattle.copy_buffer_texture.specs.declared.BufferTexturePlanned.the-variants as P
-use Rattle.copy_buffer_texture.specs.Plan.{lacksDepthFact}
+use Rattle.copy_buffer_texture.specs.Plan.{lacksDepthFact, sourceChecks, lacksCopySrc, isAligned, sourceSize, sourceRanges}
 
--- ---- buffer to texture
+-- ---- into a texture, from a buffer or from memory
 
 -- module 4; 34
-unfoldable pub uploadPlaced : Device → Buffer → TexelCopyBufferLayout → Texture → TexelCopyTextureInfo → Extent3d → CopyExtent → ℕ → TextureCopyBase → BufferTexturePlanned
-uploadPlaced device b layout t view size extent layers base =
-    after-linear (linearChecked layout (t .format) (view .aspect) (b .size) Source size) P.Refused λ info.
+unfoldable pub uploadPlaced : Device → UploadSource → TexelCopyBufferLayout → Texture → TexelCopyTextureInfo → Extent3d → CopyExtent → ℕ → TextureCopyBase → BufferTexturePlanned
+uploadPlaced device source layout t view size extent layers base =
+    after-linear (linearChecked layout (t .format) (view .aspect) (sourceSize source) Source size) P.Refused λ info.
     stop-if (lacksDepthFact device (t .format)) (P.Refused (E.MissingDownlevelFlags DepthTextureAndBufferCopies)) $
-    P.Plan (planOf layout size extent layers base info Source (dstTextureRange view t size))
+    P.Plan (planOf layout size extent layers base info (dstTextureRange view t size) (sourceRanges source (layout .offset) info))
 
 -- 5; 6; 31 or 32; 35; 28; 14; 20
-unfoldable pub uploadAllowed : Device → Buffer → TexelCopyBufferLayout → Texture → TexelCopyTextureInfo → Extent3d → CopyExtent → ℕ → TextureCopyBase → BufferTexturePlanned
-uploadAllowed device b layout t view size extent layers base =
-    stop-if (not (contains (b .usage .0) BufferUsages.COPY-SRC)) (P.Refused (E.MissingBufferUsage Source)) $
+unfoldable pub uploadAllowed : Device → UploadSource → TexelCopyBufferLayout → Texture → TexelCopyTextureInfo → Extent3d → CopyExtent → ℕ → TextureCopyBase → BufferTexturePlanned
+uploadAllowed device source layout t view size extent layers base =
+    stop-if (lacksCopySrc source) (P.Refused (E.MissingBufferUsage Source)) $
     stop-if (not (contains (t .usage .0) TextureUsages.COPY-DST)) (P.Refused (E.MissingTextureUsage Destination)) $
     after (checked (dstFormatChecks (t .format) (view .aspect))) P.Refused $
-    after (checked (layoutChecks (view .aspect) (base .aspect .0) t layout true)) P.Refused $
-    uploadPlaced device b layout t view size extent layers base
+    after (checked (layoutChecks (view .aspect) (base .aspect .0) t layout (isAligned source))) P.Refused $
+    uploadPlaced device source layout t view size extent layers base
 
 -- module 3; 12
-unfoldable pub uploadRanged : Device → Buffer → TexelCopyBufferLayout → Texture → TexelCopyTextureInfo → Extent3d → BufferTexturePlanned
-uploadRanged device b layout t view size =
+unfoldable pub uploadRanged : Device → UploadSource → TexelCopyBufferLayout → Texture → TexelCopyTextureInfo → Extent3d → BufferTexturePlanned
+uploadRanged device source layout t view size =
     after-range (rangeChecked view t Destination size) P.Refused λ extent layers.
     after-selector (selectorChecked view t size) P.Refused λ base.
-    uploadAllowed device b layout t view size extent layers base
+    uploadAllowed device source layout t view size extent layers base
 
--- records: 3 source, 2 destination
-unfoldable pub uploadStaged : Device → Buffer → TexelCopyBufferLayout → Texture → TexelCopyTextureInfo → Extent3d → BufferTexturePlanned
-uploadStaged device b layout t view size =
-    after (checked (bufferChecks b Source)) P.Refused $
+-- the texture's record: 2
+unfoldable pub uploadRecorded : Device → UploadSource → TexelCopyBufferLayout → Texture → TexelCopyTextureInfo → Extent3d → BufferTexturePlanned
+uploadRecorded device source layout t view size =
     after (checked (textureChecks t Destination)) P.Refused $
-    uploadRanged device b layout t view size
+    uploadRanged device source layout t view size
+
+-- the buffer's: 3
+unfoldable pub uploadStaged : Device → UploadSource → TexelCopyBufferLayout → Texture → TexelCopyTextureInfo → Extent3d → BufferTexturePlanned
+uploadStaged device source layout t view size =
+    after (checked (sourceChecks source)) P.Refused $
+    uploadRecorded device source layout t view size
+
+-- ---- what callees need
+
+-- the end of a buffer's ranges, rounded up, has 64 bits
+abbrev pub EndFits : UploadSource → ℕ → Type 0
+EndFits (S.Buffer b) end = end < 2 ^ 63
+EndFits (S.Memory length) end = Unit {0}
 
 -- ---- texture to buffer
 
@@ -71,7 +85,7 @@ downloadPlaced device b layout t view size extent layers base =
     after-linear (linearChecked layout (t .format) (view .aspect) (b .size) Destination size) P.Refused λ info.
     stop-if (lacksDepthFact device (t .format)) (P.Refused (E.MissingDownlevelFlags DepthTextureAndBufferCopies)) $
     stop-if (not (contains (b .usage .0) BufferUsages.COPY-DST)) (P.Refused (E.MissingBufferUsage Destination)) $
-    P.Plan (planOf layout size extent layers base info Destination (srcTextureRange view t size))
+    P.Plan (planOf layout size extent layers base info (srcTextureRange view t size) (bufferInit (layout .offset) Destination (info .«bytes_in_copy») (info .«is_contiguous»)))
 
 -- 6; 37; 29 or 30; 35; 28; 14; 20
 unfoldable pub downloadAllowed : Device → Buffer → TexelCopyBufferLayout → Texture → TexelCopyTextureInfo → Extent3d → CopyExtent → ℕ → TextureCopyBase → BufferTexturePlanned

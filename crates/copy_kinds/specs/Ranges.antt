@@ -40,6 +40,11 @@ unfoldable pub copyRanges : ℕ → ℕ → CopyRanges → Ranges
 copyRanges texture buffer (C.Given t b) = textureAndBuffer texture t buffer b
 copyRanges texture buffer C.Absent = noRanges
 
+-- from memory the texture's alone
+unfoldable pub memoryRanges : ℕ → CopyRanges → Ranges
+memoryRanges texture (C.Given t b) = record { first = Texture texture t; second = Absent; third = Absent; fourth = Absent }
+memoryRanges texture C.Absent = noRanges
+
 -- the source's, then the destination's
 unfoldable pub twoTextures : ℕ → TextureInitRange → ℕ → TextureInitRange → Ranges
 twoTextures src s dst d = record { first = Texture src s; second = Texture dst d; third = Absent; fourth = Absent }

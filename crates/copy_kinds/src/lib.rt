@@ -1,9 +1,9 @@
-// A copy of any of the four kinds, with the records that it names: its plan and ranges, or its refusal.
+// A copy of any of the five kinds, with the records that it names: its plan and ranges, or its refusal.
 ghost use mathlib.Core.Path.{_≡_};
 ghost use mathlib.Core.List.{[]};
-ghost use Rattle.copy_kinds.specs.Planned.{ofBuffers, ofBufferTexture, ofTextures, plannedBuffers, plannedUpload, plannedDownload, plannedTextures};
+ghost use Rattle.copy_kinds.specs.Planned.{ofBuffers, ofBufferTexture, ofMemory, ofTextures, plannedBuffers, plannedUpload, plannedMemoryUpload, plannedDownload, plannedTextures};
 ghost use Prim.Native.Nat.{_≤_};
-ghost use Rattle.copy_kinds.specs.Ranges.{bufferSlot, noRanges, bufferRanges, textureAndBuffer, copyRanges, twoTextures, textureRanges, slotCount, countOf};
+ghost use Rattle.copy_kinds.specs.Ranges.{bufferSlot, noRanges, bufferRanges, textureAndBuffer, copyRanges, memoryRanges, twoTextures, textureRanges, slotCount, countOf};
 use copy_buffer_texture::BufferTexturePlanned;
 use copy_buffers::BufferPlanned;
 use copy_textures::TexturePlanned;
@@ -108,6 +108,20 @@ fn copy_ranges(texture: u32, buffer: u32, ranges: CopyRanges) -> Ranges
     }
 }
 
+fn memory_ranges(texture: u32, ranges: CopyRanges) -> Ranges
+    ensures { λ r. ⌜ r ≡ memoryRanges texture ranges ⌝ }
+{
+    match ranges {
+        CopyRanges::Given(t, _) => Ranges {
+            first: RangeSlot::Texture(texture, t),
+            second: RangeSlot::Absent,
+            third: RangeSlot::Absent,
+            fourth: RangeSlot::Absent,
+        },
+        CopyRanges::Absent => no_ranges(),
+    }
+}
+
 fn two_textures(src: u32, s: TextureInitRange, dst: u32, d: TextureInitRange) -> Ranges
     ensures { λ r. ⌜ r ≡ twoTextures src s dst d ⌝ }
 {
@@ -133,6 +147,13 @@ fn ranges_of_copy(texture: u32, buffer: u32, plan: BufferTexturePlan) -> Ranges
 {
     let ranges = plan.ranges;
     copy_ranges(texture, buffer, ranges)
+}
+
+fn ranges_of_memory_upload(texture: u32, plan: BufferTexturePlan) -> Ranges
+    ensures { λ r. ⌜ r ≡ memoryRanges texture (plan .ranges) ⌝ }
+{
+    let ranges = plan.ranges;
+    memory_ranges(texture, ranges)
 }
 
 fn ranges_of_textures(src: u32, dst: u32, plan: TexturePlan) -> Ranges
@@ -161,6 +182,20 @@ fn of_buffer_texture(texture: u32, buffer: u32, answer: BufferTexturePlanned) ->
             Planned::Plan(
                 Plan::BufferTexture(plan),
                 ranges_of_copy(texture, buffer, plan),
+            )
+        },
+        BufferTexturePlanned::Refused(why) => Planned::Refused(why),
+    }
+}
+
+fn of_memory(texture: u32, answer: BufferTexturePlanned) -> Planned
+    ensures { λ r. ⌜ r ≡ ofMemory texture answer ⌝ }
+{
+    match answer {
+        BufferTexturePlanned::Plan(plan) => {
+            Planned::Plan(
+                Plan::BufferTexture(plan),
+                ranges_of_memory_upload(texture, plan),
             )
         },
         BufferTexturePlanned::Refused(why) => Planned::Refused(why),
@@ -226,6 +261,29 @@ pub fn plan_upload(
         size,
     );
     of_buffer_texture(texture_index, buffer_index, answer)
+}
+
+// The same of a copy from a block of memory into a texture.
+pub fn plan_memory_upload(
+    device: Device,
+    length: u64,
+    layout: TexelCopyBufferLayout,
+    texture_index: u32,
+    texture: Texture,
+    view: TexelCopyTextureInfo,
+    size: Extent3d,
+) -> Planned
+    ensures { λ r. ⌜ r ≡ plannedMemoryUpload device length layout «texture_index» texture view size ⌝ }
+{
+    let answer = copy_buffer_texture::copy_memory_to_texture(
+        device,
+        length,
+        layout,
+        texture,
+        view,
+        size,
+    );
+    of_memory(texture_index, answer)
 }
 
 // The same of a copy from a texture into a buffer.

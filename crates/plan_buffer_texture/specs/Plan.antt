@@ -1,18 +1,15 @@
--- The plan of a copy between a buffer and a texture.
+-- The plan of a copy between a buffer, or memory, and a texture.
 use Prim.Native.Nat.{ℕ}
 use mathlib.Core.Bool.{Bool}
 use Rattle.conditions.specs.Conditions.{pick}
 use Rattle.measures.specs.declared.Extent3d.{Extent3d}
 use Rattle.measures.specs.Measure.{isEmpty}
-use Rattle.refusals.specs.declared.CopySide.{CopySide}
 use Rattle.records.specs.declared.TexelCopyBufferLayout.{TexelCopyBufferLayout}
 use Rattle.rule_copy_range.specs.declared.CopyExtent.{CopyExtent}
 use Rattle.rule_linear_data.specs.declared.LinearData.{LinearData}
 use Rattle.rule_selectors.specs.declared.TextureCopyBase.{TextureCopyBase}
 use Rattle.rule_init_ranges.specs.declared.TextureInitRange.{TextureInitRange}
 use Rattle.rule_init_ranges.specs.declared.BufferInitRanges.{BufferInitRanges}
-use Rattle.rule_init_ranges.specs.declared.OptionRange.the-variants.{Absent}
-use Rattle.rule_init_ranges.specs.Init.{bufferInit}
 use Rattle.plan_buffer_texture.specs.declared.BufferTextureCopy.{BufferTextureCopy}
 use Rattle.plan_buffer_texture.specs.declared.CopyRanges.{CopyRanges}
 use Rattle.plan_buffer_texture.specs.declared.CopyRanges.the-variants as N
@@ -28,17 +25,17 @@ firstRegion layout base extent =
       size = extent;
     }
 
--- the texture's range, then the buffer's; none where the copy is empty
+-- the texture's range, then the buffer's, of which memory has none; none at all where the copy is empty
 unfoldable pub rangesOf : Bool → TextureInitRange → BufferInitRanges → CopyRanges
 rangesOf empty texture buffer = pick empty N.Absent (N.Given texture buffer)
 
 -- a region for each layer, each an image stride on; none where the copy is empty
-unfoldable pub planOf : TexelCopyBufferLayout → Extent3d → CopyExtent → ℕ → TextureCopyBase → LinearData → CopySide → TextureInitRange → BufferTexturePlan
-planOf layout size extent layers base info side texture =
+unfoldable pub planOf : TexelCopyBufferLayout → Extent3d → CopyExtent → ℕ → TextureCopyBase → LinearData → TextureInitRange → BufferInitRanges → BufferTexturePlan
+planOf layout size extent layers base info texture buffer =
     record {
       region = firstRegion layout base extent;
       stride = info .«image_stride»;
       left = pick (isEmpty size) 0 layers;
-      ranges = rangesOf (isEmpty size) texture (bufferInit (layout .offset) side (info .«bytes_in_copy») (info .«is_contiguous»));
+      ranges = rangesOf (isEmpty size) texture buffer;
       «bytes_checked» = info .«bytes_in_copy»;
     }

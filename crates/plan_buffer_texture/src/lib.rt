@@ -1,13 +1,12 @@
-// The plan of a copy between a buffer and a texture, asked for its regions one by one.
+// The plan of a copy between a buffer, or memory, and a texture, asked for its regions one by one.
 ghost use mathlib.Core.Path.{_≡_};
-ghost use Prim.Native.Nat.{_+_, _^_, _<_};
+ghost use Prim.Native.Nat.{_<_};
 ghost use Rattle.conditions.specs.Conditions.{pick};
 ghost use Rattle.plan_buffer_texture.specs.Plan.{firstRegion, rangesOf, planOf};
 ghost use Rattle.plan_buffer_texture.specs.Asking.{moved, advanced, nextOf};
 use measures::Extent3d;
 use measures::OptionU32;
 use records::TexelCopyBufferLayout;
-use refusals::CopySide;
 use rule_copy_range::CopyExtent;
 use rule_init_ranges::BufferInitRanges;
 use rule_init_ranges::TextureInitRange;
@@ -23,7 +22,7 @@ pub struct BufferTextureCopy {
     pub size: CopyExtent,
 }
 
-// The texture's range, then the buffer's.
+// The texture's range, then the buffer's; of a copy from memory all of these are absent.
 pub enum CopyRanges {
     Given(TextureInitRange, BufferInitRanges),
     Absent,
@@ -93,21 +92,14 @@ pub fn plan_of(
     layers: u32,
     base: TextureCopyBase,
     info: LinearData,
-    side: CopySide,
     texture: TextureInitRange,
+    buffer: BufferInitRanges,
 ) -> BufferTexturePlan
-    requires { ⌜ layout .offset + info .«bytes_in_copy» < 2 ^ 63 ⌝ }
-    ensures { λ r. ⌜ r ≡ planOf layout size extent layers base info side texture ⌝ }
+    ensures { λ r. ⌜ r ≡ planOf layout size extent layers base info texture buffer ⌝ }
 {
     let empty = measures::is_empty(size);
     let region = first_region(layout, base, extent);
     let left = count_of(empty, layers);
-    let buffer = rule_init_ranges::handle_buffer_init(
-        layout.offset,
-        side,
-        info.bytes_in_copy,
-        info.is_contiguous,
-    );
     let ranges = ranges_of(empty, texture, buffer);
     BufferTexturePlan {
         region,

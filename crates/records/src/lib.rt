@@ -56,7 +56,7 @@ pub struct TexelCopyTextureInfo {
     pub aspect: TextureAspect,
 }
 
-// The other side: how rows and images lie in a buffer.
+// The other side: how rows and images lie in a buffer, or in memory.
 pub struct TexelCopyBufferLayout {
     pub offset: u64,
     pub bytes_per_row: OptionU32,

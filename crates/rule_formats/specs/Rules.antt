@@ -1,4 +1,4 @@
--- Which formats a buffer copy may read and write, and what a buffer copy asks of a texture and a layout.
+-- Which formats a copy with a buffer, or from memory, may read and write, and what it asks of a texture and a layout.
 use Prim.Native.Nat.{ℕ}
 use mathlib.Core.Bool.{Bool, true, false, _&&_, _||_, not}
 use mathlib.Core.List.{[], _∷_}

@@ -55,14 +55,15 @@ module _ (layout : TexelCopyBufferLayout) (bufferSize : ℕ) (side : CopySide) (
         inside = omega arith;
         stride-fits = ltb-true _ _ (not-false (ltb (imageStride layout d) (2 ^ 64)) (test-fails _ _ (n 2)));
         image-fits = ltb-true _ _ (not-false (ltb (imageBytes layout d) (2 ^ 64)) (test-fails _ _ (n 3)));
+        total-fits = ltb-true _ _ (not-false (ltb T (2 ^ 64)) (test-fails _ _ (n 4)));
       }
 
   below : (n : ℕ) → n < 2 ^ 64 → not (ltb n (2 ^ 64)) ≡ false
   below n h = not-no (ltb n (2 ^ 64)) (lt-ltb n (2 ^ 64) h)
 
-  linear-passes : bufferSize < 2 ^ 64 → LinearLaws layout bufferSize d → flatten (linearChecks layout bufferSize side d) ≡ []
+  linear-passes : LinearLaws layout bufferSize d → flatten (linearChecks layout bufferSize side d) ≡ []
   unfolding linearChecks
-  linear-passes small l =
+  linear-passes l =
       let i = l .inside in
       flat-empty (linearChecks layout bufferSize side d) (
         test-off _ _ (at-least (layout .«bytes_per_row») (d .«row_bytes») (l .row-fits)),
@@ -73,7 +74,7 @@ module _ (layout : TexelCopyBufferLayout) (bufferSize : ℕ) (side : CopySide) (
             (
               test-off _ _ (below (imageBytes layout d) (l .image-fits)),
               (
-                test-off _ _ (below T (omega arith)),
+                test-off _ _ (below T (l .total-fits)),
                 (
                   test-off _ _ (l .bytes-given),
                   (
@@ -110,9 +111,9 @@ module _ (layout : TexelCopyBufferLayout) (format : ℕ) (aspect : TextureAspect
   unfolding linearChecked
   first-found = first-of-all LinearChecked (linearChecks layout bufferSize side d) L.Refused (L.GoOn (linearData layout d))
 
-  pub linear-goes : bufferSize < 2 ^ 64 → LinearLaws layout bufferSize d → linearChecked layout format aspect bufferSize side size ≡ L.GoOn (linearData layout d)
+  pub linear-goes : LinearLaws layout bufferSize d → linearChecked layout format aspect bufferSize side size ≡ L.GoOn (linearData layout d)
   unfolding first
-  linear-goes small l = first-found ∙ rw (linear-passes layout bufferSize side d small l)
+  linear-goes l = first-found ∙ rw (linear-passes layout bufferSize side d l)
 
   pub linear-went : (m : LinearData) → linearChecked layout format aspect bufferSize side size ≡ L.GoOn m → LinearLaws layout bufferSize d × (linearData layout d ≡ m)
   linear-went m h =

@@ -15,15 +15,16 @@ pub record LinearLaws (layout : TexelCopyBufferLayout) (bufferSize : ℕ) (d : D
   -- what has to be given is given
   pub bytes-given : lacks (layout .«bytes_per_row») (severalRows d) ≡ false
   pub rows-given : lacks (layout .«rows_per_image») (severalImages d) ≡ false
-  -- the required span lies inside the buffer
+  -- the required span lies inside the buffer, or the block of memory
   pub inside : layout .offset + totalBytes layout d ≤ bufferSize
-  -- and neither stride nor image reaches 2 ^ 64
+  -- and neither stride nor image nor total reaches 2 ^ 64
   pub stride-fits : imageStride layout d < 2 ^ 64
   pub image-fits : imageBytes layout d < 2 ^ 64
+  pub total-fits : totalBytes layout d < 2 ^ 64
 
--- the checks find nothing exactly where they hold, of buffers below 2 ^ 64 bytes
+-- the checks find nothing exactly where they hold
 pub record LinearRule (layout : TexelCopyBufferLayout) (bufferSize : ℕ) (side : CopySide) (d : Dense) : Type 0 where
-  pub passes : bufferSize < 2 ^ 64 → LinearLaws layout bufferSize d → flatten (linearChecks layout bufferSize side d) ≡ []
+  pub passes : LinearLaws layout bufferSize d → flatten (linearChecks layout bufferSize side d) ≡ []
   pub holds : flatten (linearChecks layout bufferSize side d) ≡ [] → LinearLaws layout bufferSize d
 
 -- the rows of an image lie within its stride

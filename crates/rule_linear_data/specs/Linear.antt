@@ -1,4 +1,4 @@
--- The bytes that a copy takes in a buffer. Numbers are unbounded here: nothing wraps.
+-- The bytes that a copy takes in a buffer, or in memory. Numbers are unbounded here: nothing wraps.
 use Prim.Native.Nat.{ℕ, _+_, _-_, _*_, _^_}
 use mathlib.Core.Bool.{Bool, false, _&&_, _||_, not}
 use mathlib.Core.List.{[], _∷_}
@@ -43,7 +43,7 @@ severalRows d = ltb 1 (d .images) || ltb 1 (d .rows .0)
 unfoldable pub severalImages : Dense → Bool
 severalImages d = ltb 1 (d .images)
 
--- ---- how it lies in the buffer; an absent value counts as the dense one
+-- ---- how it lies in the buffer, or in memory; an absent value counts as the dense one
 
 -- none for no items; else a stride for each item but the last, and the last
 unfoldable pub stacked : ℕ → ℕ → ℕ → ℕ

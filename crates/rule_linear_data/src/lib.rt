@@ -1,4 +1,4 @@
-// The bytes that a copy takes in a buffer: `validate_linear_texture_data` of command/transfer.rs.
+// The bytes that a copy takes in a buffer, or in memory: `validate_linear_texture_data` of command/transfer.rs.
 ghost use mathlib.Core.Path.{_≡_};
 ghost use Prim.Native.Nat.{_+_, _*_, _≤_};
 ghost use Rattle.rule_linear_data.specs.Linear.{isBelow, lacks, stacked as stackedOf, severalRows, severalImages, isContiguous, dataOf, rowStride, imageRows, blockBytes, denseOf, linearChecked};
@@ -26,7 +26,7 @@ pub struct Dense {
     pub images: u64,
 }
 
-// How it lies in the buffer.
+// How it lies in the buffer, or in memory.
 pub struct Span {
     pub row_stride: u64,
     pub image_stride: u64,

@@ -13,10 +13,10 @@ use Rattle.records.specs.declared.TextureSide.{TextureSide}
 use Rattle.records.specs.declared.TexelCopyTextureInfo.{TexelCopyTextureInfo}
 use Rattle.records.specs.declared.TexelCopyBufferLayout.{TexelCopyBufferLayout}
 use Rattle.copy_kinds.specs.declared.Planned.{Planned}
-use Rattle.copy_kinds.specs.Planned.{plannedBuffers, plannedUpload, plannedDownload, plannedTextures}
+use Rattle.copy_kinds.specs.Planned.{plannedBuffers, plannedUpload, plannedMemoryUpload, plannedDownload, plannedTextures}
 use Rattle.sheet_fields.specs.declared.Line.{Line}
 use Rattle.sheet_records.specs.Records.{valueOf, wordOf, sizeOf, extentOf, viewOf, layoutOf}
-use Rattle.sheet_copies.specs.CopyLines.{textureAt, bufferAt, textureSideAt, namedBuffers, namedCopy, namedTextures, buffersPlanned, copyPlanned, texturesPlanned, linePlanned}
+use Rattle.sheet_copies.specs.CopyLines.{textureAt, bufferAt, textureSideAt, namedBuffers, namedCopy, namedMemory, namedTextures, buffersPlanned, copyPlanned, memoryPlanned, texturesPlanned, linePlanned}
 
 pub named-buffers :
     (s bs : List ℕ) (device : Device) (l : Line) (i j from to : ℕ) (src dst : Buffer) (size : OptionU64)
@@ -36,6 +36,13 @@ module _ (s ts bs : List ℕ) (device : Device) (l : Line) {i j kind : ℕ} {b :
   unfolding namedCopy
   named-download e = rw (← is, ne-eqb kind 2 e, hb, ht, hl, hv, hn, hi, hj)
 
+pub named-memory :
+    (s ts : List ℕ) (device : Device) (l : Line) (j length : ℕ) (t : Texture) (layout : TexelCopyBufferLayout) (view : TexelCopyTextureInfo) (size : Extent3d)
+    → j ≡ wordOf l 5 → t ≡ textureAt s ts j → length ≡ valueOf l 1 → layout ≡ layoutOf l → view ≡ viewOf l 6 → size ≡ extentOf l 11
+    → plannedMemoryUpload device length layout j t view size ≡ namedMemory s ts device l
+unfolding namedMemory
+named-memory s ts device l j length t layout view size hj ht hm hl hv hn = rw (ht, hm, hl, hv, hn, hj)
+
 pub named-textures :
     (s ts : List ℕ) (l : Line) (i j : ℕ) (src dst : TextureSide) (size : Extent3d)
     → i ≡ wordOf l 1 → src ≡ textureSideAt s ts l 1 → j ≡ wordOf l 7 → dst ≡ textureSideAt s ts l 7 → size ≡ extentOf l 13
@@ -53,6 +60,10 @@ module _ (s ts bs : List ℕ) (device : Device) (l : Line) (kind : ℕ) (is : ki
   unfolding linePlanned
   kind-four n e h = rw (← is, ne-eqb kind 1 n, eq-eqb kind 4 e) h
 
-  pub kind-other : (kind ≡ 1 → ⊥) → (kind ≡ 4 → ⊥) → r ≡ copyPlanned s ts bs device l → r ≡ linePlanned s ts bs device l
+  pub kind-five : (kind ≡ 1 → ⊥) → (kind ≡ 4 → ⊥) → kind ≡ 5 → r ≡ memoryPlanned s ts device l → r ≡ linePlanned s ts bs device l
   unfolding linePlanned
-  kind-other n m h = rw (← is, ne-eqb kind 1 n, ne-eqb kind 4 m) h
+  kind-five n m e h = rw (← is, ne-eqb kind 1 n, ne-eqb kind 4 m, eq-eqb kind 5 e) h
+
+  pub kind-other : (kind ≡ 1 → ⊥) → (kind ≡ 4 → ⊥) → (kind ≡ 5 → ⊥) → r ≡ copyPlanned s ts bs device l → r ≡ linePlanned s ts bs device l
+  unfolding linePlanned
+  kind-other n m o h = rw (← is, ne-eqb kind 1 n, ne-eqb kind 4 m, ne-eqb kind 5 o) h

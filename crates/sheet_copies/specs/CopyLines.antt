@@ -14,7 +14,7 @@ use Rattle.records.specs.declared.Texture.{Texture}
 use Rattle.records.specs.declared.TextureSide.{TextureSide}
 use Rattle.copy_kinds.specs.declared.Planned.{Planned}
 use Rattle.copy_kinds.specs.declared.Planned.the-variants as P
-use Rattle.copy_kinds.specs.Planned.{plannedBuffers, plannedUpload, plannedDownload, plannedTextures}
+use Rattle.copy_kinds.specs.Planned.{plannedBuffers, plannedUpload, plannedMemoryUpload, plannedDownload, plannedTextures}
 use Rattle.sheet_fields.specs.declared.Line.{Line}
 use Rattle.sheet_sections.specs.Rows.{textures, buffers, sectionLine}
 use Rattle.sheet_records.specs.Records.{valueOf, wordOf, sizeOf, extentOf, textureOf, bufferOf, viewOf, layoutOf}
@@ -59,6 +59,13 @@ namedCopy s ts bs device l =
 unfoldable pub copyPlanned : List ℕ → List ℕ → List ℕ → Device → Line → Planned
 copyPlanned s ts bs device l = decided (indexChecks bs (wordOf l 1) ts (wordOf l 5)) P.Refused (namedCopy s ts bs device l)
 
+-- `5 length offset bytes rows texture level x y z aspect w h d`: no buffer is named
+unfoldable pub namedMemory : List ℕ → List ℕ → Device → Line → Planned
+namedMemory s ts device l = plannedMemoryUpload device (valueOf l 1) (layoutOf l) (wordOf l 5) (textureAt s ts (wordOf l 5)) (viewOf l 6) (extentOf l 11)
+
+unfoldable pub memoryPlanned : List ℕ → List ℕ → Device → Line → Planned
+memoryPlanned s ts device l = decided (refuse-if (past ts (wordOf l 5)) InvalidSheetIndex ∷ []) P.Refused (namedMemory s ts device l)  -- 1
+
 -- `4`, then texture, level, x, y, z, aspect twice, then w h d
 unfoldable pub namedTextures : List ℕ → List ℕ → Line → Planned
 namedTextures s ts l = plannedTextures (wordOf l 1) (textureSideAt s ts l 1) (wordOf l 7) (textureSideAt s ts l 7) (extentOf l 13)
@@ -71,4 +78,5 @@ unfoldable pub linePlanned : List ℕ → List ℕ → List ℕ → Device → L
 linePlanned s ts bs device l =
     pick (eqb (valueOf l 0) 1) (buffersPlanned s bs device l) $
     pick (eqb (valueOf l 0) 4) (texturesPlanned s ts l) $
+    pick (eqb (valueOf l 0) 5) (memoryPlanned s ts device l) $
     copyPlanned s ts bs device l

@@ -4,7 +4,7 @@ ghost use Prim.Native.Nat.{_<_, _+_};
 ghost use lib.ListN.{getD};
 ghost use Rattle.sheet_records.specs.Records.{wordOf};
 ghost use Rattle.sheet_copies.specs.Answers.{deviceAt};
-ghost use Rattle.sheet_copies.specs.CopyLines.{textureAt, bufferAt, textureSideAt, past, namedBuffers, namedCopy, namedTextures, buffersPlanned, copyPlanned, texturesPlanned, linePlanned};
+ghost use Rattle.sheet_copies.specs.CopyLines.{textureAt, bufferAt, textureSideAt, past, namedBuffers, namedCopy, namedMemory, namedTextures, buffersPlanned, copyPlanned, memoryPlanned, texturesPlanned, linePlanned};
 use copy_kinds::Planned;
 use records::Buffer;
 use records::Device;
@@ -119,6 +119,27 @@ fn plan_buffer_texture(
     plan_named_copy(s, textures, buffers, device, l)
 }
 
+fn plan_named_memory(s: &[u8], textures: &[usize], device: Device, l: Line) -> Planned
+    ensures { λ r. ⌜ r ≡ namedMemory (now (s .entry)) (now (textures .entry)) device l ⌝ }
+{
+    let j = sheet_records::word_of(l, 5);
+    let texture = texture_at(s, textures, j);
+    let length = sheet_records::value_of(l, 1);
+    let layout = sheet_records::layout_of(l);
+    let view = sheet_records::view_of(l, 6);
+    let size = sheet_records::extent_of(l, 11);
+    copy_kinds::plan_memory_upload(device, length, layout, j, texture, view, size)
+}
+
+fn plan_memory(s: &[u8], textures: &[usize], device: Device, l: Line) -> Planned
+    ensures { λ r. ⌜ r ≡ memoryPlanned (now (s .entry)) (now (textures .entry)) device l ⌝ }
+{
+    if is_past(textures, l, 5) {
+        return Planned::Refused(TransferError::InvalidSheetIndex);
+    }
+    plan_named_memory(s, textures, device, l)
+}
+
 fn plan_named_textures(s: &[u8], textures: &[usize], l: Line) -> Planned
     ensures { λ r. ⌜ r ≡ namedTextures (now (s .entry)) (now (textures .entry)) l ⌝ }
 {
@@ -162,6 +183,9 @@ pub fn plan_line(
     }
     if kind == 4 {
         return plan_textures(s, textures, l);
+    }
+    if kind == 5 {
+        return plan_memory(s, textures, device, l);
     }
     plan_buffer_texture(s, textures, buffers, device, l)
 }

@@ -42,7 +42,7 @@ rules =
     ∷ rule 0 (2 ^ 64 - 1) true  -- long or dash
     ∷ rule 0 5 false  -- aspect
     ∷ rule 0 1 false  -- fact
-    ∷ rule 1 4 false  -- kind
+    ∷ rule 1 5 false  -- kind
     ∷ rule 0 256 false  -- count
     ∷ []
 

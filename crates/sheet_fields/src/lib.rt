@@ -71,7 +71,7 @@ fn rule_of(code: u8) -> Rule
         LONG_OR_DASH => numbers(0, u64::MAX, true),
         ASPECT => numbers(0, 5, false),
         FACT => numbers(0, 1, false),
-        KIND => numbers(1, 4, false),
+        KIND => numbers(1, 5, false),
         COUNT => numbers(0, 256, false),
         _ => numbers(1, 0, false),
     }

@@ -42,10 +42,14 @@ bufferCodes = long ∷ word ∷ []
 unfoldable pub bufferCopyCodes : List ℕ
 bufferCopyCodes = kind ∷ word ∷ long ∷ word ∷ long ∷ longOrDash ∷ []
 
--- kind, buffer, offset, bytes, rows; texture, level, x, y, z, aspect; width, height, depth
-unfoldable pub bufferTextureCodes : List ℕ
-bufferTextureCodes =
-    kind ∷ word ∷ long ∷ wordOrDash ∷ wordOrDash
+-- what the bytes are in: a block of memory by its length, a buffer by its index
+unfoldable pub linearCode : ℕ → ℕ
+linearCode kind = pick (eqb kind 5) long word
+
+-- kind, buffer or length, offset, bytes, rows; texture, level, x, y, z, aspect; width, height, depth
+unfoldable pub bufferTextureCodes : ℕ → List ℕ
+bufferTextureCodes linear =
+    kind ∷ linear ∷ long ∷ wordOrDash ∷ wordOrDash
     ∷ word ∷ word ∷ word ∷ word ∷ word ∷ aspect
     ∷ word ∷ word ∷ word ∷ []
 
@@ -62,7 +66,7 @@ unfoldable pub copyCodes : ℕ → List ℕ
 copyCodes kind =
     pick (eqb kind 1) bufferCopyCodes $
     pick (eqb kind 4) textureCopyCodes $
-    bufferTextureCodes
+    bufferTextureCodes (linearCode kind)
 
 unfoldable pub kindOf : Field → ℕ
 kindOf (F.At kind gone next) = kind

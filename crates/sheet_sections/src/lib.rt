@@ -5,7 +5,7 @@ ghost use Prim.Native.Nat.{_≤_};
 ghost use lib.ListN.{length};
 ghost use lib.Seq.{sets};
 ghost use Rattle.sheet_fields.specs.Line.{lineOf};
-ghost use Rattle.sheet_sections.specs.Rows.{kindOf, kindAt, copyCodes, sectionLine, placesOf, rowsOf};
+ghost use Rattle.sheet_sections.specs.Rows.{kindOf, kindAt, linearCode, copyCodes, sectionLine, placesOf, rowsOf};
 ghost use Rattle.sheet_sections.specs.Sheet.{leastOf, mostOf, sectionOfRows, sectionOfCount, sectionOf, IllAt, foundOf, newline, newlines, sheetOf};
 ghost use Rattle.sheet_sections.specs.Laws.{SheetLaws};
 use sheet_fields::Field;
@@ -74,6 +74,15 @@ fn kind_at(s: &[u8], at: usize) -> u64
     kind_of(sheet_fields::read_field(s, at, sheet_fields::KIND, b' '))
 }
 
+fn linear_code(kind: u64) -> u8
+    ensures { λ r. ⌜ r ≡ linearCode kind ⌝ }
+{
+    if kind == 5 {
+        return sheet_fields::LONG;
+    }
+    sheet_fields::WORD
+}
+
 // A copy's line, of which the kind is read already and is read again as its first field.
 fn read_copy(s: &[u8], at: usize, kind: u64) -> Line
     ensures { λ r. ⌜ r ≡ lineOf (now (s .entry)) (copyCodes kind) at ⌝ }
@@ -112,10 +121,11 @@ fn read_copy(s: &[u8], at: usize, kind: u64) -> Line
         ];
         return sheet_fields::read_line(s, at, &codes);
     }
+    let linear = linear_code(kind);
     let d = sheet_fields::WORD_OR_DASH;
     let codes = [
         sheet_fields::KIND,
-        w,
+        linear,
         sheet_fields::LONG,
         d,
         d,

@@ -5,13 +5,16 @@ use std::fmt::Write;
 
 use copy_compare::{Call, Records};
 use copy_sheet::{
-    run_copy, Copy, CopyKind, Objects, Outcome, Prepared, Recorder, Sheet, TextureView,
+    is_left_out_of_agreement, run_copy, Copy, CopyKind, Objects, Outcome, Prepared, Recorder,
+    Sheet, TextureView,
 };
 use sheet_generator::random_sheet;
 
 /// The run of the generator that the copies are found in.
 const SEED: u64 = 20_261_116;
 const SHEET_COPIES: usize = 64;
+
+pub const KINDS: usize = CopyKind::ALL.len();
 
 /// Copies of a set.
 pub const COPIES: usize = 64;
@@ -118,25 +121,28 @@ fn texture_views(copy: &Copy) -> Vec<&TextureView> {
             destination,
             ..
         } => vec![source, destination],
+        Copy::MemoryToTexture { destination, .. } => vec![destination],
     }
 }
 
 /// Random copies of each kind, first the accepted ones, then the refused ones.
-/// No two of a set are of one sheet.
-pub fn random_inputs() -> [[Inputs; 2]; 4] {
-    let mut sets: [[Inputs; 2]; 4] = Default::default();
+/// No two of a set are of one sheet, and the Rust has one answer to each.
+pub fn random_inputs() -> [[Inputs; 2]; KINDS] {
+    let mut sets: [[Inputs; 2]; KINDS] = Default::default();
     let mut recorder = Recorder::new();
     let mut number = 0;
     while sets.iter().flatten().any(|set| set.copies.len() < COPIES) {
         let sheet = random_sheet(SEED, number, SHEET_COPIES);
         let mut objects = Objects::new(&sheet);
-        let mut is_taken = [[false; 2]; 4];
+        let mut is_taken = [[false; 2]; KINDS];
         for copy in &sheet.copies {
             let outcome = run_copy(&mut recorder, &mut objects, copy);
-            let Some(place) = place(copy.kind(), &outcome) else {
+            let Some([kind, verdict]) = place(copy.kind(), &outcome) else {
                 continue;
             };
-            let [kind, verdict] = place;
+            if is_left_out_of_agreement(&objects, copy) {
+                continue;
+            }
             let set = &mut sets[kind][verdict];
             if set.copies.len() < COPIES && !is_taken[kind][verdict] {
                 is_taken[kind][verdict] = true;

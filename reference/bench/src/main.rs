@@ -10,16 +10,18 @@ use std::fs;
 
 use copy_compare::{Call, Rooms};
 use copy_planner::{BufferTextureCopy, Plan};
-use copy_sheet::Recorder;
+use copy_sheet::{CopyKind, Prepared, Recorder};
 
-use inputs::Inputs;
+use inputs::{Inputs, KINDS};
+use passes::Record;
 use race::{Race, Side};
 
-const KINDS: [&str; 4] = [
+const NAMES: [&str; KINDS] = [
     "buffer_to_buffer",
     "buffer_to_texture",
     "texture_to_buffer",
     "texture_to_texture",
+    "memory_to_texture",
 ];
 const VERDICTS: [&str; 2] = ["accepted", "refused"];
 
@@ -67,7 +69,12 @@ fn print_setting() {
         "no buffer is cleared between calls: slices, the Rust's recorder and the planner's room \
          are used again"
     );
-    println!("a call of a copy is timed with the reading of all its ranges and regions\n");
+    println!("a call of a copy is timed with the reading of all its ranges and regions");
+    println!(
+        "memory_to_texture: the Rust is the body of Queue::write_texture, which validates, tracks \
+         and makes regions of a staging buffer, with nothing staged; its rules alone are the same \
+         validation in the planner's order, with regions of the block, as the planner makes them\n"
+    );
 }
 
 fn processor() -> Option<String> {
@@ -76,24 +83,51 @@ fn processor() -> Option<String> {
     Some(line.split(':').nth(1)?.trim().to_owned())
 }
 
-fn copy_races(sets: &[[Inputs; 2]; 4]) -> Vec<Race<'_>> {
+fn copy_races(sets: &[[Inputs; 2]; KINDS]) -> Vec<Race<'_>> {
     let mut races = Vec::new();
-    for (kind, sets) in KINDS.iter().zip(sets) {
+    for (kind, sets) in CopyKind::ALL.into_iter().zip(sets) {
         for (verdict, inputs) in VERDICTS.iter().zip(sets) {
-            races.push(copy_race(format!("{kind}_{verdict}"), inputs.mix(), inputs));
+            let name = format!("{}_{verdict}", NAMES[kind as usize]);
+            races.push(match kind {
+                CopyKind::MemoryToTexture => memory_race(name, inputs),
+                _ => copy_race(name, inputs.mix(), inputs),
+            });
         }
     }
     races
 }
 
-/// The planner over the Rust; both must read the same numbers.
+/// The planner over the Rust.
 fn copy_race(name: String, about: String, inputs: &Inputs) -> Race<'_> {
+    race_with(name, about, inputs, Prepared::record)
+}
+
+/// The planner over `Queue::write_texture`. The copies were held to its answers
+/// when they were drawn: its regions are those of a staging buffer.
+fn memory_race(name: String, inputs: &Inputs) -> Race<'_> {
+    let mut race = race_with(name, inputs.mix(), inputs, Prepared::record_by_queue);
+    let mut recorder = Recorder::new();
+    let rules = move || passes::rust_pass(&inputs.prepared, &mut recorder, Prepared::record);
+    let count = inputs.prepared.len();
+    race.sides
+        .push(Side::new("Rust, rules alone", count, rules));
+    race
+}
+
+/// The planner, which must read the numbers that the Rust's rules give, over a
+/// call of the Rust.
+fn race_with<'a>(
+    name: String,
+    about: String,
+    inputs: &'a Inputs,
+    record: impl Record + Copy + 'a,
+) -> Race<'a> {
     let calls: Vec<Call> = inputs.calls();
     let [again, unread] = [calls.clone(), calls.clone()];
     let count = calls.len();
     let (mut recorder, mut rooms) = (Recorder::new(), Rooms::default());
     let (mut unread_recorder, mut unread_rooms) = (Recorder::new(), Rooms::default());
-    let expected = passes::rust_pass(&inputs.prepared, &mut recorder);
+    let expected = passes::rust_pass(&inputs.prepared, &mut recorder, Prepared::record);
     assert_eq!(passes::planner_pass(&calls, &mut rooms), expected, "{name}");
     assert_eq!(passes::returning_pass(&calls), expected, "{name}");
     Race {
@@ -101,7 +135,7 @@ fn copy_race(name: String, about: String, inputs: &Inputs) -> Race<'_> {
         about,
         sides: vec![
             Side::new("Rust", count, move || {
-                passes::rust_pass(&inputs.prepared, &mut recorder)
+                passes::rust_pass(&inputs.prepared, &mut recorder, record)
             }),
             Side::new("planner", count, move || {
                 passes::planner_pass(&calls, &mut rooms)
@@ -110,7 +144,7 @@ fn copy_race(name: String, about: String, inputs: &Inputs) -> Race<'_> {
                 passes::returning_pass(&again)
             }),
             Side::new("Rust, not read", count, move || {
-                passes::recording_pass(&inputs.prepared, &mut unread_recorder)
+                passes::recording_pass(&inputs.prepared, &mut unread_recorder, record)
             }),
             Side::new("planner, not read", count, move || {
                 passes::planning_pass(&unread, &mut unread_rooms)

@@ -5,8 +5,14 @@ use std::hint::black_box;
 use copy_compare::{init_action_numbers, init_range_numbers, Call, Numbered, Rooms, Visitor};
 use copy_planner::{Plan, TransferError};
 use copy_sheet::{
-    buffer_copy_numbers, buffer_texture_copy_numbers, texture_copy_numbers, Prepared, Recorder,
+    buffer_copy_numbers, buffer_texture_copy_numbers, texture_copy_numbers, CommandEncoderError,
+    Prepared, Recorder,
 };
+
+/// A call of the Rust.
+pub trait Record: Fn(&Prepared, &mut Recorder) -> Result<(), CommandEncoderError> {}
+
+impl<F: Fn(&Prepared, &mut Recorder) -> Result<(), CommandEncoderError>> Record for F {}
 
 /// A checksum of a range or a region. A plain sum would be made of wide loads,
 /// which wait for the narrow stores just before them, on both sides.
@@ -24,11 +30,11 @@ fn sum_all(sums: impl Iterator<Item = u64>) -> u64 {
 }
 
 /// Runs each copy through the Rust.
-pub fn rust_pass(copies: &[Prepared], recorder: &mut Recorder) -> u64 {
+pub fn rust_pass(copies: &[Prepared], recorder: &mut Recorder, record: impl Record) -> u64 {
     sum_all(
         copies
             .iter()
-            .map(|copy| match black_box(copy).record(recorder) {
+            .map(|copy| match record(black_box(copy), recorder) {
                 Ok(()) => recorded(recorder),
                 Err(error) => {
                     black_box(&error);
@@ -39,9 +45,9 @@ pub fn rust_pass(copies: &[Prepared], recorder: &mut Recorder) -> u64 {
 }
 
 /// Runs each copy through the Rust, and leaves what it recorded unread.
-pub fn recording_pass(copies: &[Prepared], recorder: &mut Recorder) -> u64 {
+pub fn recording_pass(copies: &[Prepared], recorder: &mut Recorder, record: impl Record) -> u64 {
     sum_all(copies.iter().map(|copy| {
-        let recorded = black_box(copy).record(recorder);
+        let recorded = record(black_box(copy), recorder);
         black_box(&recorded);
         u64::from(recorded.is_ok())
     }))

@@ -97,11 +97,10 @@ impl Comparer {
             .answer(sheet, expected.len() + BYTES_PAST_THE_LISTING)?;
         self.put_fault_into(&mut answer.listing);
         self.tally().count(sheet, &expected);
-        let panicked = expected.windows(9).any(|part| part == b" panicked");
         if let Some(trouble) = answer.trouble {
             self.report(sheet, &format!("the planner failed: {trouble}"))
-        } else if panicked {
-            self.report(sheet, "the Rust panicked")
+        } else if let Some(words) = rust_trouble(&expected) {
+            self.report(sheet, words)
         } else if answer.listing != expected {
             let words = first_difference(sheet, &expected, &answer.listing);
             self.report(sheet, &words)
@@ -152,6 +151,18 @@ impl Comparer {
     }
 }
 
+/// What makes a listing of the Rust worth nothing, even where a planner prints
+/// the same.
+fn rust_trouble(listing: &[u8]) -> Option<&'static str> {
+    lines(listing)
+        .iter()
+        .find_map(|line| match line.split(|byte| *byte == b' ').nth(2) {
+            Some(b"panicked") => Some("the Rust panicked"),
+            Some(b"disagreed") => Some("Queue::write_texture does not agree with the Rust's rules"),
+            _ => None,
+        })
+}
+
 /// The first line in which two listings differ, and the copy it belongs to.
 fn first_difference(sheet: &[u8], expected: &[u8], given: &[u8]) -> String {
     let expected = lines(expected);
@@ -190,4 +201,22 @@ fn copy_line(sheet: &[u8], listing: &[&[u8]]) -> Option<String> {
     let lines = lines(sheet);
     let line = lines.get(lines.len() - count + copies.checked_sub(1)?)?;
     Some(String::from_utf8_lossy(line).trim_end().into())
+}
+
+#[cfg(test)]
+mod tests {
+    use super::*;
+
+    #[test]
+    fn troubles_of_the_rust_are_told() {
+        assert_eq!(
+            rust_trouble(b"copy 0 ok 0 0 0\ncopy 1 refused 6 2 0 0 0 0\n"),
+            None
+        );
+        assert_eq!(rust_trouble(b"sheet 3\n"), None);
+        for word in ["panicked", "disagreed"] {
+            let listing = format!("copy 0 ok 0 0 0\ncopy 1 {word} for some reason\n");
+            assert!(rust_trouble(listing.as_bytes()).is_some());
+        }
+    }
 }

@@ -244,7 +244,8 @@ fn summary(comparer: &Comparer, options: &Options, begin: Instant) -> ExitCode {
     let total = comparer.total();
     let misses_fault = options.plant.is_some() && comparer.waits_to_plant();
     let mut text = String::from(
-        "columns: buffer to buffer, buffer to texture, texture to buffer, texture to texture\n",
+        "columns: buffer to buffer, buffer to texture, texture to buffer, texture to texture, \
+         memory to texture\n",
     );
     for (name, tally) in comparer.sets() {
         text += &format!("{name}\n  {tally}");

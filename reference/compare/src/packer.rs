@@ -155,6 +155,7 @@ pub fn moved(copy: &Copy, textures: &[u32], buffers: &[u32]) -> Copy {
             *source = view(source);
             *destination = view(destination);
         }
+        Copy::MemoryToTexture { destination, .. } => *destination = view(destination),
     }
     copy
 }

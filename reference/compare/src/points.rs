@@ -40,7 +40,7 @@ fn sheets(all: &[Lines]) -> Vec<Vec<u8>> {
         .collect()
 }
 
-const BENCH_POINTS: [Lines; 15] = [
+const BENCH_POINTS: [Lines; 17] = [
     // The scope document's own sheet.
     (
         &["2 2 8 8 2 1 1 3"],
@@ -104,6 +104,8 @@ const BENCH_POINTS: [Lines; 15] = [
         &[
             "2 0 0 4294967040 4294967295 0 0 0 0 0 0 1 258 2",
             "2 0 0 4294967040 4294967295 0 0 0 0 0 0 1 259 2",
+            "5 18446744073709551615 0 4294967295 4294967295 0 0 0 0 0 0 1 2 2",
+            "5 18446744073709551615 0 4294967295 4294967295 0 0 0 0 0 0 1 3 2",
         ],
     ),
     // An absent size that is not aligned.
@@ -170,9 +172,27 @@ const BENCH_POINTS: [Lines; 15] = [
         &["16 4", "16 8"],
         &["1 0 4 1 0 -", "1 0 0 1 0 4294967296", "1 0 16 1 16 -"],
     ),
+    // The scope document's sheet from memory: aligned, not aligned, cut short,
+    // and of no height.
+    (
+        &["2 2 8 8 2 1 1 3"],
+        &[],
+        &[
+            "5 3872 0 256 8 0 0 0 0 0 0 8 8 2",
+            "5 564 3 33 9 0 0 0 0 0 0 8 8 2",
+            "5 562 3 33 9 0 0 0 0 0 0 8 8 2",
+            "5 297 0 33 9 0 0 0 0 0 0 8 0 2",
+        ],
+    ),
+    // From memory of 2^64 - 1 bytes.
+    (
+        &["0 2 1 1 2 1 1 2"],
+        &[],
+        &["5 18446744073709551615 0 4294967295 4294967295 0 0 0 0 0 0 1 1 2"],
+    ),
 ];
 
-const DIFFERENCES: [Lines; 14] = [
+const DIFFERENCES: [Lines; 15] = [
     (
         &["0 3 1 1 2 1 1 1", "0 2 1 1 2 1 1 2"],
         &[],
@@ -243,10 +263,11 @@ const DIFFERENCES: [Lines; 14] = [
         &["8 4"],
         &["2 0 0 - - 0 1 0 0 0 0 4 4 1"],
     ),
+    (&["0 2 1 1 1 1 1 1"], &[], &["5 1 0 - - 0 1 0 0 0 0 1 1 1"]),
 ];
 
 /// Copies that the planner refuses and the standard does not, each with its device.
-const REFUSED: [(&str, Lines); 5] = [
+const REFUSED: [(&str, Lines); 6] = [
     ("1 1", (&[], &["268435457 4", "4 8"], &["1 0 0 1 0 4"])),
     (
         "1 1",
@@ -264,6 +285,10 @@ const REFUSED: [(&str, Lines); 5] = [
             &["2 8"],
             &["3 0 0 - - 0 0 0 0 0 0 1 1 1"],
         ),
+    ),
+    (
+        "0 1",
+        (&["16 2 1 1 1 1 1 3"], &[], &["5 2 0 - - 0 0 0 0 0 0 1 1 1"]),
     ),
     (
         "1 1",
@@ -286,37 +311,47 @@ mod tests {
         cell.split('`').skip(1).step_by(2).collect()
     }
 
-    /// The rows of the document's tables that have so many cells, and a copy in one.
-    fn rows(text: &str, cells: usize, copy: usize) -> Vec<Vec<&str>> {
-        text.lines()
-            .map(|line| line.split('|').collect::<Vec<_>>())
-            .filter(|row| row.len() == cells + 2 && row[copy].contains('`'))
-            .collect()
+    /// The rows of the document's tables of sheets, which name a texture and a copy:
+    /// the cells of device, textures, buffers and copy. Other tables have no device.
+    fn rows(text: &str) -> Vec<[Option<&str>; 4]> {
+        let mut rows = Vec::new();
+        let mut names: Vec<&str> = Vec::new();
+        for line in text.lines() {
+            let cells: Vec<&str> = line.split('|').map(str::trim).collect();
+            if !line.starts_with('|') {
+                names.clear();
+            } else if names.is_empty() {
+                names = cells;
+            } else if names.contains(&"Copy") && !line.starts_with("|---") {
+                let cell = |name| names.iter().position(|other| *other == name);
+                rows.push(
+                    ["Device", "Textures", "Buffers", "Copy"]
+                        .map(|name| cell(name).map(|place| cells[place])),
+                );
+            }
+        }
+        rows
     }
 
     /// Each row of the document's tables of sheets is one of ours.
     #[test]
     fn differences_are_those_of_the_document() {
         let text = std::fs::read_to_string(DOCUMENT).expect("the document is here");
-        let accepted = rows(&text, 5, 4);
-        assert!(accepted.len() >= 13);
-        for row in accepted {
-            let (textures, buffers, copies) = (code(row[2]), code(row[3]), code(row[4]));
-            let found = DIFFERENCES
-                .iter()
-                .any(|sheet| *sheet == (&textures[..], &buffers[..], &copies[..]));
+        let (mut accepted, mut refused) = (0, 0);
+        for row in rows(&text) {
+            let [device, textures, buffers, copies] =
+                row.map(|cell| code(cell.unwrap_or_default()));
+            let lines = (&textures[..], &buffers[..], &copies[..]);
+            let found = match device.first() {
+                None => DIFFERENCES.contains(&lines),
+                Some(device) => REFUSED.contains(&(device, lines)),
+            };
             assert!(found, "{row:?}");
+            accepted += usize::from(device.is_empty());
+            refused += usize::from(!device.is_empty());
         }
-        let refused = rows(&text, 6, 5);
-        assert_eq!(refused.len(), REFUSED.len());
-        for row in refused {
-            let (device, textures) = (code(row[2]), code(row[3]));
-            let (buffers, copies) = (code(row[4]), code(row[5]));
-            let found = REFUSED
-                .iter()
-                .any(|sheet| *sheet == (device[0], (&textures[..], &buffers[..], &copies[..])));
-            assert!(found, "{row:?}");
-        }
+        assert!(accepted >= 13);
+        assert_eq!(refused, REFUSED.len());
     }
 }
 

@@ -33,6 +33,12 @@ pub const REACHABLE: [(CopyKind, &[usize]); KINDS] = [
         CopyKind::TextureToTexture,
         &[1, 2, 6, 9, 10, 11, 12, 13, 16, 17, 18, 19, 26, 27, 33, 36],
     ),
+    (
+        CopyKind::MemoryToTexture,
+        &[
+            1, 2, 6, 7, 8, 9, 10, 12, 13, 16, 17, 18, 19, 21, 22, 23, 24, 25, 28, 31, 32, 34, 35,
+        ],
+    ),
 ];
 
 /// The run of the generator that the sheets are found in.
@@ -223,6 +229,7 @@ fn indices(copy: &Copy) -> (Vec<u32>, Vec<u32>) {
             destination,
             ..
         } => (vec![source.texture, destination.texture], vec![]),
+        Copy::MemoryToTexture { destination, .. } => (vec![destination.texture], vec![]),
     }
 }
 
@@ -251,7 +258,11 @@ fn whole_sheets() -> Vec<Vec<u8>> {
             "0 0",
             &["15 2 8 8 1 1 1 3"],
             &["4096 28", "4096 40"],
-            &["2 0 0 256 - 0 0 0 0 0 0 8 8 1", "1 0 0 1 0 4"],
+            &[
+                "2 0 0 256 - 0 0 0 0 0 0 8 8 1",
+                "1 0 0 1 0 4",
+                "5 64 0 8 - 0 0 0 0 0 0 8 8 1",
+            ],
         ),
     ];
     sheets.extend(

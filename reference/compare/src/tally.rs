@@ -19,6 +19,8 @@ pub struct Tally {
     pub accepted: Counts,
     pub refused: [Counts; NUMBERS],
     pub panicked: Counts,
+    /// Writes from memory of which the Rust has two answers.
+    pub disagreed: Counts,
     pub differences: u64,
     /// Sheets left out, for lack of time or after too many differences.
     pub left_out: u64,
@@ -33,6 +35,7 @@ impl Default for Tally {
             accepted: [0; KINDS],
             refused: [[0; KINDS]; NUMBERS],
             panicked: [0; KINDS],
+            disagreed: [0; KINDS],
             differences: 0,
             left_out: 0,
         }
@@ -62,6 +65,7 @@ impl Tally {
         match words.next() {
             Some(b"ok") => self.accepted[kind] += 1,
             Some(b"refused") => self.refused[refusal_number(words.next())][kind] += 1,
+            Some(b"disagreed") => self.disagreed[kind] += 1,
             _ => self.panicked[kind] += 1,
         }
     }
@@ -75,6 +79,7 @@ impl Tally {
             add(counts, others);
         }
         add(&mut self.panicked, &other.panicked);
+        add(&mut self.disagreed, &other.disagreed);
         self.differences += other.differences;
         self.left_out += other.left_out;
     }
@@ -106,7 +111,8 @@ impl fmt::Display for Tally {
         for (number, counts) in self.refused.iter().enumerate() {
             row(formatter, &format!("refused {number}"), counts)?;
         }
-        row(formatter, "panicked", &self.panicked)
+        row(formatter, "panicked", &self.panicked)?;
+        row(formatter, "disagreed", &self.disagreed)
     }
 }
 

@@ -7,7 +7,7 @@ const LIST: &[u8] = include_bytes!("../../../crates/sheet_replay/stdin");
 
 #[test]
 fn there_are_as_many_as_in_the_list() {
-    assert_eq!(starred_points().len(), 9);
+    assert_eq!(starred_points().len(), 10);
 }
 
 #[test]

@@ -3,6 +3,12 @@
 use alloc::boxed::Box;
 
 use crate::snatch::SnatchLock;
+use crate::track::TrackerLock;
+
+/// The rows of staging buffers start at multiples of WebGPU's own alignment, so
+/// that strides in memory may be those of the staging buffer and may not.
+const BUFFER_COPY_PITCH: wgt::BufferSize =
+    wgt::BufferSize::new(wgt::COPY_BYTES_PER_ROW_ALIGNMENT as u64).unwrap();
 
 /// A device is never lost here.
 #[derive(Clone, Debug)]
@@ -35,17 +41,25 @@ pub struct Device {
     pub(crate) zero_buffer: Box<hal::RawBuffer>,
     pub(crate) instance_flags: wgt::InstanceFlags,
     pub(crate) snatchable_lock: SnatchLock,
+    pub(crate) trackers: TrackerLock,
 }
 
 impl Device {
     pub fn new(flags: wgt::DownlevelFlags) -> Self {
         Self {
             downlevel: DownlevelCapabilities { flags },
-            alignments: hal::Alignments,
+            alignments: hal::Alignments {
+                buffer_copy_pitch: BUFFER_COPY_PITCH,
+            },
             zero_buffer: Box::new(hal::RawBuffer),
             instance_flags: wgt::InstanceFlags::from_bits_retain(0),
             snatchable_lock: SnatchLock,
+            trackers: TrackerLock,
         }
+    }
+
+    pub(crate) fn check_is_valid(&self) -> Result<(), DeviceError> {
+        Ok(())
     }
 
     pub(crate) fn require_downlevel_flags(

@@ -171,6 +171,10 @@ impl Texture {
         self.desc.format
     }
 
+    pub fn usage(&self) -> wgt::TextureUsages {
+        self.desc.usage
+    }
+
     pub(crate) fn check_usage(
         &self,
         expected: wgt::TextureUsages,

@@ -9,6 +9,16 @@ pub(crate) struct Tracker {
     pub(crate) textures: TextureTracker,
 }
 
+/// The device's trackers: there is nothing in them to be locked.
+#[derive(Debug)]
+pub(crate) struct TrackerLock;
+
+impl TrackerLock {
+    pub(crate) fn lock(&self) -> Tracker {
+        Tracker::default()
+    }
+}
+
 #[derive(Debug, Default)]
 pub(crate) struct BufferTracker;
 
@@ -39,11 +49,11 @@ impl TextureTracker {
 pub(crate) enum PendingBufferTransition {}
 
 impl PendingBufferTransition {
-    pub(crate) fn into_hal(
+    pub(crate) fn into_hal<'a>(
         self,
-        _buffer: &Buffer,
-        _snatch_guard: &SnatchGuard,
-    ) -> hal::BufferBarrier {
+        _buffer: &'a Buffer,
+        _snatch_guard: &'a SnatchGuard,
+    ) -> hal::BufferBarrier<'a> {
         match self {}
     }
 }

@@ -3,8 +3,8 @@
 use std::fmt;
 
 use copy_sheet::{
-    run_copy, Copy, CopyKind, InitAction, MemoryInitKind, Objects, Outcome, Recorder, Sheet,
-    Texture, TextureView,
+    run_copy, Copy, CopyKind, InitAction, MemoryInitKind, Objects, Outcome, Recorder, Refusal,
+    Sheet, Texture, TextureView,
 };
 
 use crate::records::NV12;
@@ -12,8 +12,8 @@ use crate::records::NV12;
 const NUMBERS: usize = 38;
 const KINDS: usize = CopyKind::ALL.len();
 
-/// More panics than these are counted only.
-const KEPT_PANICS: usize = 20;
+/// More panics and disagreements than these are counted only.
+const KEPT_TROUBLES: usize = 20;
 
 /// Counts of the outcomes of copies, by kind.
 #[derive(Debug)]
@@ -23,11 +23,14 @@ pub struct Coverage {
     zero_sized: [u64; KINDS],
     refused: [[u64; KINDS]; NUMBERS],
     panicked: [u64; KINDS],
+    disagreed: [u64; KINDS],
+    /// Writes from memory to which the order of checks makes a difference.
+    usage_asked_first: u64,
     /// The traits of the accepted copies with regions.
     traits: [[u64; KINDS]; TRAITS.len()],
     recorder: Recorder,
-    /// The first panics, as the text of their copies.
-    pub panics: Vec<String>,
+    /// The first panics and disagreements, as the text of their copies.
+    pub troubles: Vec<String>,
 }
 
 impl Default for Coverage {
@@ -38,9 +41,11 @@ impl Default for Coverage {
             zero_sized: [0; KINDS],
             refused: [[0; KINDS]; NUMBERS],
             panicked: [0; KINDS],
+            disagreed: [0; KINDS],
+            usage_asked_first: 0,
             traits: [[0; KINDS]; TRAITS.len()],
             recorder: Recorder::new(),
-            panics: Vec::new(),
+            troubles: Vec::new(),
         }
     }
 }
@@ -65,21 +70,34 @@ impl Coverage {
                     self.with_regions[kind] += 1;
                     self.count_traits(sheet, copy);
                 }
-                Outcome::Refused(refusal) => self.refused[refusal.number as usize][kind] += 1,
+                Outcome::Refused(refusal) => {
+                    self.refused[refusal.number as usize][kind] += 1;
+                    self.usage_asked_first +=
+                        u64::from(is_usage_asked_first(sheet, copy, &refusal));
+                }
                 Outcome::Panicked(message) => {
                     self.panicked[kind] += 1;
-                    if self.panics.len() < KEPT_PANICS {
-                        self.panics.push(format!("{copy:?}: {message}"));
-                    }
+                    self.keep_trouble(copy, &message);
+                }
+                Outcome::Disagreed(message) => {
+                    self.disagreed[kind] += 1;
+                    self.keep_trouble(copy, &message);
                 }
             }
+        }
+    }
+
+    fn keep_trouble(&mut self, copy: &Copy, message: &str) {
+        if self.troubles.len() < KEPT_TROUBLES {
+            self.troubles.push(format!("{copy:?}: {message}"));
         }
     }
 
     fn count_traits(&mut self, sheet: &Sheet, copy: &Copy) {
         let (source, destination) = match copy {
             Copy::BufferToBuffer { .. } => (None, None),
-            Copy::BufferToTexture { destination, .. } => (None, Some(destination)),
+            Copy::BufferToTexture { destination, .. }
+            | Copy::MemoryToTexture { destination, .. } => (None, Some(destination)),
             Copy::TextureToBuffer { source, .. } => (Some(source), None),
             Copy::TextureToTexture {
                 source,
@@ -91,6 +109,7 @@ impl Coverage {
             |view: &TextureView| (sheet.textures[view.texture as usize], view.texture, *view);
         let accepted = Accepted {
             sheet,
+            copy,
             source: source.map(side),
             destination: destination.map(side),
             recorder: &self.recorder,
@@ -105,6 +124,12 @@ impl Coverage {
         self.refused[number][kind as usize]
     }
 
+    /// How many writes from memory are refused for their range or aspects, and
+    /// by `Queue::write_texture` for the usage that they lack as well.
+    pub fn usage_asked_first(&self) -> u64 {
+        self.usage_asked_first
+    }
+
     /// How many copies of a kind were accepted.
     pub fn accepted(&self, kind: CopyKind) -> u64 {
         self.with_regions[kind as usize] + self.zero_sized[kind as usize]
@@ -113,13 +138,26 @@ impl Coverage {
     /// How many copies of a kind there were.
     pub fn copies(&self, kind: CopyKind) -> u64 {
         let refused: u64 = (0..NUMBERS).map(|number| self.refused(kind, number)).sum();
-        self.accepted(kind) + refused + self.panicked[kind as usize]
+        let troubled = self.panicked[kind as usize] + self.disagreed[kind as usize];
+        self.accepted(kind) + refused + troubled
     }
+}
+
+/// Whether the usage is lacking too, which `Queue::write_texture` asks for before
+/// the range and the aspects.
+fn is_usage_asked_first(sheet: &Sheet, copy: &Copy, refusal: &Refusal) -> bool {
+    let Copy::MemoryToTexture { destination, .. } = copy else {
+        return false;
+    };
+    let texture = sheet.textures.get(destination.texture as usize);
+    let lacks_usage = texture.is_some_and(|texture| texture.usage & Texture::COPY_DST == 0);
+    lacks_usage && matches!(refusal.number, 9 | 10 | 12 | 13 | 16..=19)
 }
 
 /// An accepted copy with regions.
 struct Accepted<'a> {
     sheet: &'a Sheet,
+    copy: &'a Copy,
     source: Option<(Texture, u32, TextureView)>,
     destination: Option<(Texture, u32, TextureView)>,
     recorder: &'a Recorder,
@@ -159,6 +197,21 @@ impl Accepted<'_> {
             })
     }
 
+    /// The length of the memory that is written from.
+    fn memory(&self) -> Option<u64> {
+        match self.copy {
+            Copy::MemoryToTexture { source, .. } => Some(source.length),
+            _ => None,
+        }
+    }
+
+    fn last_region_offset(&self) -> u64 {
+        let regions = &self.recorder.encoder().buffer_texture_copies;
+        regions
+            .last()
+            .map_or(0, |region| region.buffer_layout.offset)
+    }
+
     fn fills_texture(&self) -> bool {
         self.recorder.init_actions().iter().any(|action| {
             matches!(
@@ -175,7 +228,7 @@ impl Accepted<'_> {
 type Trait = (&'static str, fn(&Accepted) -> bool);
 
 /// What accepted copies are counted by.
-const TRAITS: [Trait; 17] = [
+const TRAITS: [Trait; 20] = [
     ("a 1D texture", |copy| {
         copy.any_texture(|t| t.dimension == 1)
     }),
@@ -223,6 +276,15 @@ const TRAITS: [Trait; 17] = [
     ("a buffer range past the size", |copy| {
         copy.any_buffer_range(|_, end, size| end > size)
     }),
+    ("memory of 2^32 bytes or more", |copy| {
+        copy.memory().is_some_and(|length| length >= 1 << 32)
+    }),
+    ("memory of 2^63 bytes or more", |copy| {
+        copy.memory().is_some_and(|length| length >= 1 << 63)
+    }),
+    ("a region at 2^63 or later", |copy| {
+        copy.last_region_offset() >= 1 << 63
+    }),
 ];
 
 impl fmt::Display for Coverage {
@@ -241,7 +303,12 @@ impl fmt::Display for Coverage {
             row(formatter, format_args!("refused {number}"), counts)?;
         }
         row(formatter, "panicked", &self.panicked)?;
-        writeln!(formatter)?;
+        row(formatter, "disagreed", &self.disagreed)?;
+        writeln!(
+            formatter,
+            "\nRefused 6 by the queue for a usage asked first: {}\n",
+            self.usage_asked_first
+        )?;
         head(formatter, "Accepted with regions and")?;
         for ((name, _), counts) in TRAITS.iter().zip(&self.traits) {
             row(formatter, name, counts)?;
@@ -255,8 +322,11 @@ fn head(formatter: &mut fmt::Formatter<'_>, first: &str) -> fmt::Result {
         formatter,
         "| {first} | buffer to buffer | buffer to texture |"
     )?;
-    writeln!(formatter, " texture to buffer | texture to texture |")?;
-    writeln!(formatter, "|---|---:|---:|---:|---:|")
+    writeln!(
+        formatter,
+        " texture to buffer | texture to texture | memory to texture |"
+    )?;
+    writeln!(formatter, "|---|---:|---:|---:|---:|---:|")
 }
 
 fn row(

@@ -31,6 +31,7 @@ pub fn random_sheet(seed: u64, number: u64, copies: usize) -> Sheet {
             CopyKind::BufferToTexture => texture_copies::buffer_to_texture(rng, &records),
             CopyKind::TextureToBuffer => texture_copies::texture_to_buffer(rng, &records),
             CopyKind::TextureToTexture => texture_copies::texture_to_texture(rng, &records),
+            CopyKind::MemoryToTexture => texture_copies::memory_to_texture(rng, &records),
         })
         .collect();
     Sheet {

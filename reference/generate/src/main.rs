@@ -128,8 +128,8 @@ fn print_coverage(options: &Options) -> io::Result<()> {
     }
     let mut output = io::stdout().lock();
     write!(output, "{coverage}")?;
-    for panic in &coverage.panics {
-        writeln!(output, "{panic}")?;
+    for trouble in &coverage.troubles {
+        writeln!(output, "{trouble}")?;
     }
     Ok(())
 }

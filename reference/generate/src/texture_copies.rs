@@ -1,7 +1,7 @@
 //! Copies with a texture: one that should be accepted, then often one thing
 //! about it put wrong or on the edge.
 
-use copy_sheet::{Buffer, BufferView, Copy, Extent, Texture, TextureView};
+use copy_sheet::{Buffer, BufferView, Copy, Extent, MemoryView, Texture, TextureView};
 
 use crate::buffer_copies::{index_past, multiple_up_to, pick_or_first};
 use crate::records::{Records, NV12};
@@ -18,12 +18,16 @@ const MAX_ASPECT: u32 = 5;
 enum Direction {
     ToTexture,
     ToBuffer,
+    FromMemory,
 }
 
-/// A copy between a buffer and a texture.
+/// A copy between a buffer and a texture, or from memory.
 struct Draft {
     direction: Direction,
+    /// From memory the index means nothing.
     buffer: BufferView,
+    /// The bytes of the memory.
+    length: u64,
     texture: TextureView,
     size: Extent,
 }
@@ -55,6 +59,21 @@ pub fn texture_to_buffer(rng: &mut Rng, records: &Records) -> Copy {
     }
 }
 
+/// A random write from memory.
+pub fn memory_to_texture(rng: &mut Rng, records: &Records) -> Copy {
+    let draft = buffer_texture_copy(rng, records, Direction::FromMemory);
+    Copy::MemoryToTexture {
+        source: MemoryView {
+            length: draft.length,
+            offset: draft.buffer.offset,
+            bytes_per_row: draft.buffer.bytes_per_row,
+            rows_per_image: draft.buffer.rows_per_image,
+        },
+        destination: draft.texture,
+        size: draft.size,
+    }
+}
+
 /// A random copy between textures.
 pub fn texture_to_texture(rng: &mut Rng, records: &Records) -> Copy {
     let mut draft = sound_texture_copy(rng, records);
@@ -70,7 +89,12 @@ pub fn texture_to_texture(rng: &mut Rng, records: &Records) -> Copy {
 
 fn buffer_texture_copy(rng: &mut Rng, records: &Records, direction: Direction) -> Draft {
     let mut draft = sound_buffer_texture_copy(rng, records, direction);
-    while rng.chance(55) {
+    // Memory asks for no alignment, so that more must be put wrong.
+    let percent = match direction {
+        Direction::FromMemory => 60,
+        Direction::ToTexture | Direction::ToBuffer => 55,
+    };
+    while rng.chance(percent) {
         disturb_buffer_texture_copy(rng, records, &mut draft);
     }
     draft
@@ -125,9 +149,9 @@ fn copyable_aspects(texture: &Texture, direction: Direction) -> &'static [u32] {
     match (texture.format, direction) {
         (15, _) => &[ALL, STENCIL_ONLY],
         (16, _) | (19, Direction::ToBuffer) => &[ALL, DEPTH_ONLY],
-        (17, _) | (19, Direction::ToTexture) => &[],
-        (18, _) | (20, Direction::ToTexture) => &[STENCIL_ONLY],
         (20, Direction::ToBuffer) => &[STENCIL_ONLY, DEPTH_ONLY],
+        (17 | 19, _) => &[],
+        (18 | 20, _) => &[STENCIL_ONLY],
         (NV12, _) => &[PLANE_0, PLANE_1],
         _ => &[ALL],
     }
@@ -183,7 +207,7 @@ fn box_within(rng: &mut Rng, texture: &Texture, extent: &Extent) -> ([u32; 3], E
 
 fn sound_buffer_texture_copy(rng: &mut Rng, records: &Records, direction: Direction) -> Draft {
     let usage = match direction {
-        Direction::ToTexture => Texture::COPY_DST,
+        Direction::ToTexture | Direction::FromMemory => Texture::COPY_DST,
         Direction::ToBuffer => Texture::COPY_SRC,
     };
     let choices = records.textures_that(|texture| {
@@ -210,6 +234,7 @@ fn sound_buffer_texture_copy(rng: &mut Rng, records: &Records, direction: Direct
             bytes_per_row: None,
             rows_per_image: None,
         },
+        length: 0,
         texture: TextureView {
             texture: index,
             level,
@@ -251,15 +276,17 @@ fn height_in_blocks(records: &Records, draft: &Draft) -> u32 {
     draft.size.height / block_side(texture)
 }
 
-/// Chooses strides, a buffer with room, and an offset.
+/// Chooses strides, a buffer with room or a block of memory, and an offset.
 fn lay_out(rng: &mut Rng, records: &Records, draft: &mut Draft) {
     let row = dense_row(records, draft);
     let rows = height_in_blocks(records, draft);
     let needs_rows = draft.size.depth > 1;
     let needs_bytes = needs_rows || rows > 1;
     if needs_bytes || rng.chance(60) {
-        let padding = 256 * rng.pick(&[0, 0, 0, 1]);
-        draft.buffer.bytes_per_row = Some(row.next_multiple_of(256).saturating_add(padding));
+        draft.buffer.bytes_per_row = Some(match draft.direction {
+            Direction::FromMemory => stride_in_memory(rng, row),
+            _ => row.next_multiple_of(256) + 256 * rng.pick(&[0, 0, 0, 1]),
+        });
     }
     if needs_rows || rng.chance(40) {
         draft.buffer.rows_per_image = Some(rows + rng.pick(&[0, 0, 0, 1, 3]));
@@ -268,6 +295,7 @@ fn lay_out(rng: &mut Rng, records: &Records, draft: &mut Draft) {
     let usage = match draft.direction {
         Direction::ToTexture => Buffer::COPY_SRC,
         Direction::ToBuffer => Buffer::COPY_DST,
+        Direction::FromMemory => return lay_out_in_memory(rng, total, draft),
     };
     let mut choices =
         records.buffers_that(|buffer| buffer.usage & usage != 0 && buffer.size >= total);
@@ -281,9 +309,44 @@ fn lay_out(rng: &mut Rng, records: &Records, draft: &mut Draft) {
     draft.buffer.offset = multiple_up_to(rng, room, offset_alignment(records, draft));
 }
 
+/// Dense, a little longer, or a staging buffer's.
+fn stride_in_memory(rng: &mut Rng, row: u32) -> u32 {
+    match rng.below(8) {
+        0..=2 => row,
+        3..=5 => row + rng.between(1, 300),
+        _ => row.next_multiple_of(256),
+    }
+}
+
+/// An offset, and a length that leaves room for the data from there on.
+fn lay_out_in_memory(rng: &mut Rng, total: u64, draft: &mut Draft) {
+    let most = u64::MAX - total;
+    draft.buffer.offset = match rng.below(8) {
+        0..=2 => 0,
+        3..=5 => rng.below(64).min(most),
+        6 => near_power(rng).min(most),
+        _ => most - rng.below(4).min(most),
+    };
+    let end = draft.buffer.offset + total;
+    draft.length = match rng.below(6) {
+        0..=2 => end,
+        3 => end.saturating_add(rng.below(64)),
+        4 => near_power(rng).max(end),
+        _ => u64::MAX - rng.below(4).min(u64::MAX - end),
+    };
+}
+
+/// Around 2^32, 2^63 or the end of 64 bits.
+fn near_power(rng: &mut Rng) -> u64 {
+    let power = rng.pick(&[1 << 32, 1 << 63, u64::MAX - 2]);
+    power - 2 + rng.below(5)
+}
+
 fn offset_alignment(records: &Records, draft: &Draft) -> u64 {
     let texture = &records.textures[draft.texture.texture as usize];
-    if is_depth_stencil(texture) {
+    if draft.direction == Direction::FromMemory {
+        1
+    } else if is_depth_stencil(texture) {
         4
     } else {
         block_bytes(texture, draft.texture.aspect).into()
@@ -315,7 +378,9 @@ fn disturb_buffer_texture_copy(rng: &mut Rng, records: &Records, draft: &mut Dra
         // Refused before anything else is looked at.
         return;
     }
+    let from_memory = draft.direction == Direction::FromMemory;
     match rng.below(30) {
+        0..=2 if from_memory => disturb_memory(rng, records, draft),
         0 if rng.chance(50) => draft.texture.texture = index_past(rng, texture_count),
         0 => draft.buffer.buffer = index_past(rng, buffer_count),
         1 if rng.chance(50) => {
@@ -336,19 +401,27 @@ fn disturb_buffer_texture_copy(rng: &mut Rng, records: &Records, draft: &mut Dra
         }
         20 | 21 => {
             let rows = height_in_blocks(records, draft);
-            let near = [
-                rows.saturating_sub(1),
-                rows,
-                rows.saturating_add(1),
-                0,
-                u32::MAX,
-            ];
-            draft.buffer.rows_per_image = Some(rng.pick(&near));
+            draft.buffer.rows_per_image = Some(rows_near(rng, rows));
         }
         22 | 23 => overflow_total(rng, records, draft),
         24 => *draft = whole_texture(rng, records, draft, |texture| texture.samples == 4),
         25..=28 => *draft = whole_texture(rng, records, draft, is_uncommon),
         _ => drop_rows(rng, records, draft),
+    }
+}
+
+/// Puts the texture's index or record wrong, or the memory's length.
+fn disturb_memory(rng: &mut Rng, records: &Records, draft: &mut Draft) {
+    let end = draft
+        .buffer
+        .offset
+        .saturating_add(total_bytes(records, draft));
+    match rng.below(6) {
+        0 => draft.texture.texture = index_past(rng, records.textures.len()),
+        1 => draft.texture.texture = records.ill_texture().unwrap_or(draft.texture.texture),
+        2 => draft.length = near_power(rng),
+        3 => draft.length = rng.below(end.max(1)),
+        _ => draft.length = end.saturating_sub(rng.below(3)),
     }
 }
 
@@ -359,7 +432,10 @@ fn is_uncommon(texture: &Texture) -> bool {
 
 /// Near the last offset at which the copy still fits, or near the end.
 fn offset_at_end(rng: &mut Rng, records: &Records, draft: &Draft) -> u64 {
-    let size = records.buffers[draft.buffer.buffer as usize].size;
+    let size = match draft.direction {
+        Direction::FromMemory => draft.length,
+        _ => records.buffers[draft.buffer.buffer as usize].size,
+    };
     let unit = offset_alignment(records, draft);
     let room = size.saturating_sub(total_bytes(records, draft));
     let last = room / unit * unit;
@@ -394,6 +470,17 @@ fn bytes_near(rng: &mut Rng, row: u32) -> u32 {
     ])
 }
 
+/// Around the rows of an image, and the least and the largest value.
+fn rows_near(rng: &mut Rng, rows: u32) -> u32 {
+    rng.pick(&[
+        rows.saturating_sub(1),
+        rows,
+        rows.saturating_add(1),
+        0,
+        u32::MAX,
+    ])
+}
+
 /// Strides so long that a few images, or two tall ones, pass 2^64 bytes.
 fn overflow_total(rng: &mut Rng, records: &Records, draft: &mut Draft) {
     let texture = &records.textures[draft.texture.texture as usize];
@@ -409,6 +496,13 @@ fn overflow_total(rng: &mut Rng, records: &Records, draft: &mut Draft) {
     draft.buffer.bytes_per_row = Some(rng.pick(&[4_294_967_040, 1 << 31]));
     draft.buffer.rows_per_image = Some(rng.pick(&[u32::MAX, u32::MAX, u32::MAX - 1, 1 << 31]));
     draft.buffer.offset = 0;
+    if draft.direction == Direction::FromMemory {
+        if rng.chance(50) {
+            draft.buffer.bytes_per_row = Some(u32::MAX - rng.between(0, 1));
+        }
+        // All of it fits, where it does not pass 2^64.
+        lay_out_in_memory(rng, total_bytes(records, draft), draft);
+    }
 }
 
 /// The whole of a layer of another texture, with any aspect.
@@ -429,6 +523,7 @@ fn whole_texture(
     let aspects = copyable_aspects(texture, draft.direction);
     let mut whole = Draft {
         direction: draft.direction,
+        length: draft.length,
         buffer: BufferView {
             bytes_per_row: None,
             rows_per_image: None,

@@ -13,6 +13,9 @@ pub type Resource = [u64; 4];
 pub const TEXTURE: u64 = 1;
 const BUFFER: u64 = 2;
 
+/// A block of memory; it has no ranges.
+pub const MEMORY: Resource = [3, 0, 0, 0];
+
 /// An answer to a copy. One that is not accepted has no ranges and no regions.
 #[derive(Clone, Debug, Eq, PartialEq)]
 pub struct Answer {
@@ -49,6 +52,7 @@ impl Answer {
             Outcome::Accepted { bytes_checked } => bytes_checked,
             Outcome::Refused(refusal) => return listed_line("refused", &refusal.numbers()),
             Outcome::Panicked(message) => return format!("panicked {message}\n"),
+            Outcome::Disagreed(message) => return format!("disagreed {message}\n"),
         };
         let regions = self.regions.chunks(region_numbers(kind));
         let head = [regions.len(), self.ranges.len()].map(|count| count as u64);
@@ -86,7 +90,7 @@ fn listed_line(word: &str, numbers: &[u64]) -> String {
 fn region_numbers(kind: CopyKind) -> usize {
     match kind {
         CopyKind::BufferToBuffer => 3,
-        CopyKind::BufferToTexture | CopyKind::TextureToBuffer => 12,
+        CopyKind::BufferToTexture | CopyKind::TextureToBuffer | CopyKind::MemoryToTexture => 12,
         CopyKind::TextureToTexture => 15,
     }
 }

@@ -3,9 +3,9 @@
 //! Formats and dimensions that the crate has no name for can be asked here, and
 //! every word that the planner writes is seen.
 
-use copy_sheet::{BufferView, Copy, Extent, Refusal, Sheet, Texture, TextureView};
+use copy_sheet::{BufferView, Copy, Extent, MemoryView, Refusal, Sheet, Texture, TextureView};
 
-use crate::answer::{buffer_resource, range_numbers, texture_resource, Resource};
+use crate::answer::{buffer_resource, range_numbers, texture_resource, Resource, MEMORY};
 use crate::given::{Given, GUARD, MOST_REGIONS};
 
 /// What stands for a value that is not given; it must not be read.
@@ -70,6 +70,21 @@ extern "C" {
         depth_texture_and_buffer_copies: bool,
         buffer_size: u64,
         buffer_usage: u32,
+        offset: u64,
+        has_bytes_per_row: bool,
+        bytes_per_row: u32,
+        has_rows_per_image: bool,
+        rows_per_image: u32,
+        texture: &[u32; 8],
+        view: &[u32; 5],
+        size: &[u32; 3],
+        plan: &mut BufferTexturePlan,
+        ranges: &mut [u64; 12],
+    ) -> u32;
+
+    fn copy_planner_memory_to_texture(
+        depth_texture_and_buffer_copies: bool,
+        length: u64,
         offset: u64,
         has_bytes_per_row: bool,
         bytes_per_row: u32,
@@ -173,6 +188,11 @@ pub fn answer(sheet: &Sheet, copy: &Copy, given: &mut Given) {
             destination,
             size,
         } => between_textures(sheet, source, destination, size, given),
+        Copy::MemoryToTexture {
+            source,
+            destination,
+            size,
+        } => from_memory(sheet, source, destination, size, given),
     }
 }
 
@@ -245,6 +265,37 @@ fn buffer_and_texture(
         texture_resource(view.texture, view.level),
         buffer_resource(layout.buffer),
     ];
+    read_out(number, plan, &ranges, resources, &BUFFER_AND_TEXTURE, given);
+}
+
+fn from_memory(
+    sheet: &Sheet,
+    block: &MemoryView,
+    view: &TextureView,
+    size: &Extent,
+    given: &mut Given,
+) {
+    let (mut plan, mut ranges) = ([GUARD; 15], [GUARD; 12]);
+    // SAFETY: the function is total, and each array has the length that it
+    // reads or writes.
+    let number = unsafe {
+        copy_planner_memory_to_texture(
+            sheet.device.depth_texture_and_buffer_copies,
+            block.length,
+            block.offset,
+            block.bytes_per_row.is_some(),
+            block.bytes_per_row.unwrap_or(NOT_GIVEN),
+            block.rows_per_image.is_some(),
+            block.rows_per_image.unwrap_or(NOT_GIVEN),
+            &texture_words(sheet, view),
+            &view_words(view),
+            &size_words(size),
+            &mut plan,
+            &mut ranges,
+        )
+    };
+    // The Rust has no ranges of memory: a row for it that is not all zeros differs.
+    let resources = [texture_resource(view.texture, view.level), MEMORY];
     read_out(number, plan, &ranges, resources, &BUFFER_AND_TEXTURE, given);
 }
 

@@ -2,10 +2,10 @@
 
 use copy_planner::{
     copy_buffer_to_buffer, copy_buffer_to_texture, copy_texture_to_buffer, copy_texture_to_texture,
-    Buffer, BufferCopy, BufferTextureCopy, BufferUsages, CopyExtent, Device, Extent3d, Origin3d,
-    Plan, PlanRoom, Region, TexelCopyBufferInfo, TexelCopyBufferLayout, TexelCopyTextureInfo,
-    Texture, TextureAspect, TextureCopy, TextureCopyBase, TextureDimension, TextureFormat,
-    TextureUsages, TransferError,
+    write_texture, Buffer, BufferCopy, BufferTextureCopy, BufferUsages, CopyExtent, Device,
+    Extent3d, Origin3d, Plan, PlanRoom, Region, TexelCopyBufferInfo, TexelCopyBufferLayout,
+    TexelCopyTextureInfo, Texture, TextureAspect, TextureCopy, TextureCopyBase, TextureDimension,
+    TextureFormat, TextureUsages, TransferError,
 };
 use copy_sheet::{self as sheet, BufferView, Copy, Sheet, TextureView, ABSENT};
 
@@ -71,6 +71,7 @@ impl Records {
                 dst: self.texture_info(destination)?,
                 size: extent_of(size),
             }),
+            Copy::MemoryToTexture { .. } => self.write_from_memory(copy),
         }
     }
 
@@ -92,6 +93,28 @@ impl Records {
             dst: self.buffer(destination)?,
             dst_offset: destination_offset,
             size,
+        })
+    }
+
+    fn write_from_memory(&self, copy: &Copy) -> Option<Call<'_>> {
+        let Copy::MemoryToTexture {
+            source,
+            destination,
+            size,
+        } = copy
+        else {
+            return None;
+        };
+        Some(Call::MemoryToTexture {
+            device: self.device,
+            dst: self.texture_info(destination)?,
+            length: source.length,
+            layout: TexelCopyBufferLayout {
+                offset: source.offset,
+                bytes_per_row: source.bytes_per_row,
+                rows_per_image: source.rows_per_image,
+            },
+            size: extent_of(size),
         })
     }
 
@@ -201,6 +224,13 @@ pub enum Call<'a> {
         dst: TexelCopyTextureInfo<'a>,
         size: Extent3d,
     },
+    MemoryToTexture {
+        device: Device,
+        dst: TexelCopyTextureInfo<'a>,
+        length: u64,
+        layout: TexelCopyBufferLayout,
+        size: Extent3d,
+    },
 }
 
 /// What is done with the plan of a copy of any kind.
@@ -213,9 +243,9 @@ pub trait Visitor {
 /// Room for a plan of each kind.
 #[derive(Debug, Default)]
 pub struct Rooms {
-    between_buffers: PlanRoom<BufferCopy>,
+    buffers: PlanRoom<BufferCopy>,
     buffer_and_texture: PlanRoom<BufferTextureCopy>,
-    between_textures: PlanRoom<TextureCopy>,
+    textures: PlanRoom<TextureCopy>,
 }
 
 impl Call<'_> {
@@ -248,17 +278,20 @@ impl Call<'_> {
             Self::TextureToTexture { src, dst, size } => {
                 visitor.visit(lent(&mut copy_texture_to_texture(src, dst, size)))
             }
+            Self::MemoryToTexture {
+                device,
+                dst,
+                length,
+                layout,
+                size,
+            } => visitor.visit(lent(&mut write_texture(device, dst, length, layout, size))),
         }
     }
 
     /// Plans the copy in room that is used again.
     #[inline]
     pub fn plan_in<V: Visitor>(&self, rooms: &mut Rooms, visitor: V) -> V::Output {
-        let Rooms {
-            between_buffers,
-            buffer_and_texture,
-            between_textures,
-        } = rooms;
+        let room = &mut rooms.buffer_and_texture;
         match *self {
             Self::BufferToBuffer {
                 device,
@@ -268,7 +301,8 @@ impl Call<'_> {
                 dst_offset,
                 size,
             } => visitor.visit(
-                between_buffers
+                rooms
+                    .buffers
                     .copy_buffer_to_buffer(device, src, src_offset, dst, dst_offset, size),
             ),
             Self::BufferToTexture {
@@ -276,16 +310,23 @@ impl Call<'_> {
                 src,
                 dst,
                 size,
-            } => visitor.visit(buffer_and_texture.copy_buffer_to_texture(device, src, dst, size)),
+            } => visitor.visit(room.copy_buffer_to_texture(device, src, dst, size)),
             Self::TextureToBuffer {
                 device,
                 src,
                 dst,
                 size,
-            } => visitor.visit(buffer_and_texture.copy_texture_to_buffer(device, src, dst, size)),
+            } => visitor.visit(room.copy_texture_to_buffer(device, src, dst, size)),
             Self::TextureToTexture { src, dst, size } => {
-                visitor.visit(between_textures.copy_texture_to_texture(src, dst, size))
+                visitor.visit(rooms.textures.copy_texture_to_texture(src, dst, size))
             }
+            Self::MemoryToTexture {
+                device,
+                dst,
+                length,
+                layout,
+                size,
+            } => visitor.visit(room.write_texture(device, dst, length, layout, size)),
         }
     }
 }

@@ -5,7 +5,9 @@ use std::io::{self, Write};
 use std::panic::{self, AssertUnwindSafe};
 use std::sync::Mutex;
 
-use copy_sheet::{sheet_text, Copy, Objects, Outcome, Recorder, Sheet};
+use copy_sheet::{
+    is_left_out_of_agreement, sheet_text, Copy, CopyKind, Objects, Outcome, Recorder, Sheet,
+};
 
 use crate::answer::{Answer, TEXTURE};
 use crate::calls::{Call, Records, Rooms};
@@ -48,6 +50,8 @@ pub struct Comparer<'a> {
     expected: Answer,
     given: Given,
     tally: Tally,
+    /// The one kind that is compared, or none for all.
+    only: Option<CopyKind>,
     /// A fault, and how many answers that have a place for it come before.
     plant: Option<(Plant, u64)>,
     reports: &'a Reports,
@@ -61,9 +65,15 @@ impl<'a> Comparer<'a> {
             expected: Answer::default(),
             given: Given::default(),
             tally: Tally::default(),
+            only: None,
             plant: None,
             reports,
         }
+    }
+
+    /// Leaves copies of other kinds alone.
+    pub fn compare_only(&mut self, kind: CopyKind) {
+        self.only = Some(kind);
     }
 
     /// Puts a fault into the planner's answer number `at`, counted from 1 among
@@ -88,11 +98,12 @@ impl<'a> Comparer<'a> {
         let records = Records::new(sheet);
         for (k, copy) in sheet.copies.iter().enumerate() {
             let mut copy = *copy;
-            if !lead_back(sheet, &mut copy) {
+            if self.only.is_some_and(|only| only != copy.kind()) || !lead_back(sheet, &mut copy) {
                 continue;
             }
             rust::answer(&mut self.recorder, &mut objects, &copy, &mut self.expected);
             self.tally.count(copy.kind(), &self.expected);
+            self.tally.left_out += u64::from(is_left_out_of_agreement(&objects, &copy));
             if let Some((way, words)) = self.first_difference(sheet, &records, &copy) {
                 self.tally.differences += 1;
                 let head = format!("{name}, copy {k}: {}: {words}", way.name());
@@ -110,9 +121,9 @@ impl<'a> Comparer<'a> {
         records: &Records,
         copy: &Copy,
     ) -> Option<(Way, &'static str)> {
-        if matches!(self.expected.outcome, Outcome::Panicked(_)) {
+        if let Some(words) = unusable(&self.expected.outcome) {
             self.given.clear();
-            return Some((Way::Crate, "not asked, for the Rust panicked"));
+            return Some((Way::Crate, words));
         }
         let call = records.call(copy);
         self.tally.unnamed += u64::from(call.is_none());
@@ -174,10 +185,21 @@ impl<'a> Comparer<'a> {
     }
 }
 
+/// Why the Rust's answer is none to compare with, if it is not.
+fn unusable(outcome: &Outcome) -> Option<&'static str> {
+    match outcome {
+        Outcome::Accepted { .. } | Outcome::Refused(_) => None,
+        Outcome::Panicked(_) => Some("not asked, for the Rust panicked"),
+        Outcome::Disagreed(_) => Some("not asked, for the Rust has two answers"),
+    }
+}
+
 /// An index of a copy.
 enum Index<'a> {
     Texture(&'a mut u32),
     Buffer(&'a mut u32),
+    /// A block of memory is no record and has none.
+    Memory,
 }
 
 /// The indices of a copy, the source's first.
@@ -212,6 +234,9 @@ fn indices(copy: &mut Copy) -> [Index<'_>; 2] {
             Index::Texture(&mut source.texture),
             Index::Texture(&mut destination.texture),
         ],
+        Copy::MemoryToTexture { destination, .. } => {
+            [Index::Memory, Index::Texture(&mut destination.texture)]
+        }
     }
 }
 
@@ -222,6 +247,7 @@ fn lead_back(sheet: &Sheet, copy: &mut Copy) -> bool {
         let (index, length) = match index {
             Index::Texture(index) => (index, sheet.textures.len() as u32),
             Index::Buffer(index) => (index, sheet.buffers.len() as u32),
+            Index::Memory => return true,
         };
         if *index >= length && length > 0 {
             *index %= length;
@@ -246,6 +272,7 @@ impl Single {
             match index {
                 Index::Texture(index) => *index = place(&mut textures, *index),
                 Index::Buffer(index) => *index = place(&mut buffers, *index),
+                Index::Memory => {}
             }
         }
         let sheet = Sheet {

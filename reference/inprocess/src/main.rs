@@ -6,7 +6,7 @@ use std::thread;
 use std::time::Instant;
 
 use copy_compare::{Comparer, Plant, Reports, Tally, PLANTS, SMALL};
-use copy_sheet::{parse, silence_copy_panics};
+use copy_sheet::{parse, silence_copy_panics, CopyKind};
 use sheet_compare::{Set, SETS};
 use sheet_generator::random_sheet;
 
@@ -17,8 +17,10 @@ Runs copies through the Rust's functions and through the planner's, in one
 process, and compares the answers: a refusal's six numbers, or the bytes
 checked, the ranges, and the regions as they are asked for and as they are
 written. The copies are those of complete small sets, then random ones.
+A write from memory is asked of the Rust in two ways, which must agree.
 
   --copies N    how many random copies (1000000)
+  --kind N      of all copies only those of this kind, 1 to 5
   --seed N      the seed of the random copies (0)
   --threads N   how many threads (one for each core)
   --no-sets     the random copies only
@@ -34,6 +36,7 @@ const SHEET_COPIES: u64 = 256;
 
 struct Options {
     copies: u64,
+    kind: Option<CopyKind>,
     seed: u64,
     threads: u64,
     sets: bool,
@@ -59,6 +62,7 @@ fn parse_options(mut arguments: impl Iterator<Item = String>) -> Result<Options,
     let cores = thread::available_parallelism().map_or(1, |cores| cores.get() as u64);
     let mut options = Options {
         copies: 1_000_000,
+        kind: None,
         seed: 0,
         threads: cores,
         sets: true,
@@ -73,6 +77,7 @@ fn parse_options(mut arguments: impl Iterator<Item = String>) -> Result<Options,
         };
         match argument.as_str() {
             "--copies" => options.copies = number(&value()?)?,
+            "--kind" => options.kind = Some(kind(&value()?)?),
             "--seed" => options.seed = number(&value()?)?,
             "--threads" => options.threads = number(&value()?)?.max(1),
             "--no-sets" => options.sets = false,
@@ -86,6 +91,12 @@ fn parse_options(mut arguments: impl Iterator<Item = String>) -> Result<Options,
 
 fn number(text: &str) -> Result<u64, String> {
     text.parse().map_err(|_| format!("{text} is no number"))
+}
+
+fn kind(text: &str) -> Result<CopyKind, String> {
+    let place = number(text)?.checked_sub(1);
+    let kind = place.and_then(|place| CopyKind::ALL.get(place as usize));
+    kind.copied().ok_or_else(|| format!("no kind {text}"))
 }
 
 fn plant(name: &str) -> Result<Plant, String> {
@@ -146,6 +157,9 @@ fn work(options: &Options, worker: u64, reports: &Reports) -> (Tally, bool) {
     let mut comparer = Comparer::new(reports);
     if let Some(plant) = options.plant.filter(|_| worker == 0) {
         comparer.plant(plant, options.plant_at);
+    }
+    if let Some(kind) = options.kind {
+        comparer.compare_only(kind);
     }
     if options.sets {
         for set in SETS.iter().chain([&SMALL]) {

@@ -3,6 +3,7 @@
 
 use copy_sheet::{Outcome, Refusal};
 
+use crate::answer::{buffer_resource, range_numbers};
 use crate::Given;
 
 /// A fault, and how it is put into an answer; false where there is no place.
@@ -28,7 +29,7 @@ const fn plant(name: &'static str, put: fn(&mut Given) -> bool) -> Plant {
 }
 
 /// Each is one number, range, region or verdict that is not as it should be.
-pub const PLANTS: [Plant; 16] = [
+pub const PLANTS: [Plant; 19] = [
     plant("accepted", |given| {
         let is_refused = !given.answer.is_accepted();
         given.accept(0);
@@ -59,6 +60,17 @@ pub const PLANTS: [Plant; 16] = [
         _ => false,
     }),
     plant("range", |given| given.answer.ranges.pop().is_some()),
+    plant("buffer_range", |given| {
+        let range = given.answer.ranges.last().copied();
+        // One more, of a buffer: a write from memory has none.
+        given
+            .answer
+            .ranges
+            .extend(range.map(|[_, index, .., start, end, kind]| {
+                range_numbers(buffer_resource(index as u32), start, end, kind)
+            }));
+        range.is_some()
+    }),
     plant("range_order", |given| swap_first(&mut given.answer.ranges)),
     plant("range_kind", |given| match given.answer.ranges.last_mut() {
         Some([.., kind]) => {
@@ -70,6 +82,13 @@ pub const PLANTS: [Plant; 16] = [
     plant("region", |given| given.answer.regions.pop().is_some()),
     plant("region_number", |given| {
         change_last(&mut given.answer.regions)
+    }),
+    plant("region_offset", |given| {
+        change_first(&mut given.answer.regions)
+    }),
+    plant("written_offset", |given| {
+        let count = given.answer.regions.len();
+        change_first(&mut given.slice[..count])
     }),
     plant("written", |given| {
         let count = given.answer.regions.len();
@@ -85,6 +104,16 @@ fn change(given: &mut Given, change: fn(&mut Refusal)) -> bool {
             true
         }
         _ => false,
+    }
+}
+
+fn change_first(numbers: &mut [u64]) -> bool {
+    match numbers.first_mut() {
+        Some(number) => {
+            *number ^= 1;
+            true
+        }
+        None => false,
     }
 }
 

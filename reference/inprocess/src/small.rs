@@ -3,7 +3,7 @@
 
 use std::io;
 
-use copy_sheet::{Buffer, BufferView, Copy, Extent, Texture, TextureView};
+use copy_sheet::{Buffer, BufferView, Copy, Extent, MemoryView, Texture, TextureView};
 use sheet_compare::{Case, Emit, Packer, Set};
 
 /// The set of these copies.
@@ -32,6 +32,40 @@ const LAYOUT: BufferView = BufferView {
     bytes_per_row: Some(256),
     rows_per_image: Some(8),
 };
+
+/// Blocks of memory: not aligned, dense, and both at the end of 64 bits. Some of
+/// the boxes are within each, and some are not.
+const MEMORY: [MemoryView; 6] = [
+    block(1_103, 3, Some([129, 9])),
+    block(65, 1, None),
+    block(u64::MAX, u64::MAX - 1_100, Some([129, 9])),
+    block(u64::MAX, u64::MAX - 64, None),
+    // The second image of one byte ends at the length, and that of more past it.
+    block(LONGEST_IMAGE + 4, 3, Some([u32::MAX, u32::MAX])),
+    // The same at the end of 64 bits.
+    block(
+        u64::MAX,
+        u64::MAX - LONGEST_IMAGE - 1,
+        Some([u32::MAX, u32::MAX]),
+    ),
+];
+
+/// The bytes from one image to the next with the longest strides.
+const LONGEST_IMAGE: u64 = (u32::MAX as u64).pow(2);
+
+/// A block with bytes per row and rows per image, or with neither.
+const fn block(length: u64, offset: u64, strides: Option<[u32; 2]>) -> MemoryView {
+    let (bytes_per_row, rows_per_image) = match strides {
+        Some([bytes_per_row, rows_per_image]) => (Some(bytes_per_row), Some(rows_per_image)),
+        None => (None, None),
+    };
+    MemoryView {
+        length,
+        offset,
+        bytes_per_row,
+        rows_per_image,
+    }
+}
 
 fn sheets(emit: &mut Emit) -> io::Result<()> {
     let mut packer = Packer::new(emit);
@@ -87,8 +121,8 @@ fn textures() -> Vec<Texture> {
     all.filter(Texture::is_within_bounds).collect()
 }
 
-/// Copies of every size to and from a buffer, and into a texture of the same
-/// kind.
+/// Copies of every size to and from a buffer, from memory, and into a texture of
+/// the same kind.
 fn add_sizes(
     packer: &mut Packer,
     texture: &Texture,
@@ -101,7 +135,12 @@ fn add_sizes(
             height: *height,
             depth: *depth,
         };
-        for copy in copies(view, size) {
+        let from_memory = MEMORY.map(|source| Copy::MemoryToTexture {
+            source,
+            destination: *view,
+            size,
+        });
+        for copy in copies(view, size).into_iter().chain(from_memory) {
             packer.add(&Case {
                 device: Case::DEVICE,
                 textures: &[*texture, *texture],

@@ -15,6 +15,9 @@ const KINDS: usize = CopyKind::ALL.len();
 /// the region writer's.
 const NOT_OF_COPIES: [usize; 2] = [1, SLICE_TOO_SHORT as usize];
 
+/// The refusal of a texture's record, of which the Rust is not asked.
+const TEXTURE_RECORD: usize = 2;
+
 type Counts = [u64; KINDS];
 
 /// Counts of copies by kind and by the Rust's answer, and of differences.
@@ -25,6 +28,10 @@ pub struct Tally {
     empty: Counts,
     refused: [Counts; NUMBERS],
     panicked: Counts,
+    /// Writes from memory of which the Rust has two answers.
+    disagreed: Counts,
+    /// Writes from memory on which its two answers may part.
+    pub left_out: u64,
     /// Copies with something that the planner's crate has no name for; the C
     /// functions alone were asked.
     pub unnamed: u64,
@@ -38,6 +45,8 @@ impl Default for Tally {
             empty: [0; KINDS],
             refused: [[0; KINDS]; NUMBERS],
             panicked: [0; KINDS],
+            disagreed: [0; KINDS],
+            left_out: 0,
             unnamed: 0,
             differences: 0,
         }
@@ -55,6 +64,7 @@ impl Tally {
             }
             Outcome::Refused(refusal) => self.refused[refusal.number as usize][kind] += 1,
             Outcome::Panicked(_) => self.panicked[kind] += 1,
+            Outcome::Disagreed(_) => self.disagreed[kind] += 1,
         }
     }
 
@@ -70,6 +80,8 @@ impl Tally {
             add(counts, others);
         }
         add(&mut self.panicked, &other.panicked);
+        add(&mut self.disagreed, &other.disagreed);
+        self.left_out += other.left_out;
         self.unnamed += other.unnamed;
         self.differences += other.differences;
     }
@@ -83,6 +95,7 @@ impl Tally {
         let mut copies = self.all_refused();
         add(&mut copies, &self.accepted);
         add(&mut copies, &self.panicked);
+        add(&mut copies, &self.disagreed);
         copies
     }
 
@@ -94,10 +107,15 @@ impl Tally {
         all
     }
 
-    /// The refusals that a kind can give and did not, as `kind number`.
+    /// The refusals that a kind can give and did not, as `kind number`. Nothing
+    /// of kinds that were not compared.
     fn gaps(&self) -> Vec<String> {
         let mut gaps = Vec::new();
+        let copies = self.copies();
         for (kind, numbers) in REACHABLE {
+            if copies[kind as usize] == 0 {
+                continue;
+            }
             for number in numbers {
                 let is_missing = self.refused[*number][kind as usize] == 0;
                 if is_missing && !NOT_OF_COPIES.contains(number) {
@@ -106,6 +124,33 @@ impl Tally {
             }
         }
         gaps
+    }
+
+    fn write_remarks(&self, formatter: &mut fmt::Formatter<'_>) -> fmt::Result {
+        let kind = CopyKind::MemoryToTexture as usize;
+        let asked = self.copies()[kind] - self.refused[TEXTURE_RECORD][kind];
+        writeln!(
+            formatter,
+            "writes from memory by the Rust's rules and by Queue::write_texture: {} compared, \
+             {} left out",
+            asked - self.left_out,
+            self.left_out
+        )?;
+        writeln!(
+            formatter,
+            "copies asked of the C functions alone: {}",
+            self.unnamed
+        )?;
+        match self.gaps() {
+            gaps if gaps.is_empty() => {
+                writeln!(formatter, "every refusal that a kind can give was reached")
+            }
+            gaps => writeln!(
+                formatter,
+                "never reached, though the kind can give it: {}",
+                gaps.join(", ")
+            ),
+        }
     }
 }
 
@@ -120,6 +165,7 @@ const NAMES: [&str; KINDS] = [
     "buffer to texture",
     "texture to buffer",
     "texture to texture",
+    "memory to texture",
 ];
 
 impl fmt::Display for Tally {
@@ -141,21 +187,8 @@ impl fmt::Display for Tally {
             }
         }
         row(formatter, "panicked", self.panicked)?;
-        writeln!(
-            formatter,
-            "copies asked of the C functions alone: {}",
-            self.unnamed
-        )?;
-        match self.gaps() {
-            gaps if gaps.is_empty() => {
-                writeln!(formatter, "every refusal that a kind can give was reached")
-            }
-            gaps => writeln!(
-                formatter,
-                "never reached, though the kind can give it: {}",
-                gaps.join(", ")
-            ),
-        }
+        row(formatter, "disagreed", self.disagreed)?;
+        self.write_remarks(formatter)
     }
 }
 

@@ -48,6 +48,60 @@ fn planted_faults_are_found() {
     }
 }
 
+/// The same of copies of each kind by itself.
+#[test]
+fn planted_faults_are_found_in_every_kind() {
+    for kind in ["1", "2", "3", "4", "5"] {
+        for plant in PLANTS {
+            let (status, last) = verdict(&[
+                "--kind",
+                kind,
+                "--copies",
+                "10000",
+                "--no-sets",
+                "--plant",
+                plant.name,
+                "--plant-at",
+                "9",
+            ]);
+            // A write from memory has one range.
+            let has_place = (kind, plant.name) != ("5", "range_order");
+            let (expected, differences) = if has_place { (1, 1) } else { (2, 0) };
+            let end = format!(" copies compared, {differences} differences");
+            assert_eq!(status, Some(expected), "{} of kind {kind}", plant.name);
+            assert!(last.ends_with(&end), "{last}");
+        }
+    }
+}
+
+/// The numbers of a row of the table, or of a remark.
+fn row(text: &str, name: &str) -> Vec<u64> {
+    let mut lines = text.lines().filter_map(|line| line.strip_prefix(name));
+    let line = lines.next().expect("the row is printed");
+    let words = line.split([' ', ',']);
+    words.filter_map(|word| word.parse().ok()).collect()
+}
+
+/// Writes from memory alone: the Rust's two answers are told apart, and of other
+/// kinds nothing is asked for.
+#[test]
+fn writes_from_memory_are_asked_in_two_ways() {
+    let output = compare(&["--kind", "5", "--copies", "200000", "--no-sets"]);
+    assert_eq!(output.status.code(), Some(0));
+    let text = String::from_utf8(output.stdout).expect("plain text");
+    let copies = row(&text, "copies  ");
+    let remark = "writes from memory by the Rust's rules and by Queue::write_texture:";
+    let [compared, left_out] = row(&text, remark)[..] else {
+        panic!("two numbers are told");
+    };
+    let records = row(&text, "  refused 2  ");
+    let asked = compared + left_out + records.last().expect("a count of each kind");
+    assert_eq!(copies, [0, 0, 0, 0, asked]);
+    assert_eq!(row(&text, "disagreed"), [0; 5]);
+    assert!(left_out > 0 && left_out < compared / 10, "{left_out}");
+    assert!(text.contains("every refusal that a kind can give was reached"));
+}
+
 /// A difference is shown with its copy, its records and both answers.
 #[test]
 fn differences_are_shown() {
@@ -87,7 +141,13 @@ fn faults_without_a_place_are_told() {
 
 #[test]
 fn odd_options_are_told() {
-    for arguments in [&["--plant", "nothing"][..], &["--copies"], &["--speed"]] {
+    for arguments in [
+        &["--plant", "nothing"][..],
+        &["--copies"],
+        &["--kind", "0"],
+        &["--kind", "6"],
+        &["--speed"],
+    ] {
         assert_eq!(compare(arguments).status.code(), Some(2), "{arguments:?}");
     }
 }

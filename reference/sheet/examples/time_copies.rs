@@ -1,5 +1,5 @@
 //! Times one accepted copy of each kind: the Rust's function alone, and with
-//! the bytes it was checked for.
+//! the bytes it was checked for. A write from memory is asked twice then.
 
 use std::hint::black_box;
 use std::time::Instant;
@@ -16,11 +16,12 @@ const SHEET: &[u8] = b"1
 2
 4096 12
 4096 12
-4
+5
 1 0 0 1 0 256
 2 0 0 256 8 0 0 0 0 0 0 8 8 2
 3 0 0 256 8 0 0 0 0 0 0 8 8 2
 4 0 0 0 0 0 0 1 0 0 0 0 0 8 8 2
+5 4096 0 256 8 0 0 0 0 0 0 8 8 2
 ";
 
 fn main() {

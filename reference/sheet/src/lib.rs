@@ -1,7 +1,8 @@
 //! Job sheets run through the copy functions of wgpu-core.
 //!
 //! A [`Sheet`] is read by [`parse`], its records are turned into the objects
-//! of the copy functions by [`Objects::new`], and [`run_copy`] runs one copy.
+//! of the copy functions by [`Objects::new`], and [`run_copy`] runs one copy; a
+//! write from memory it asks for in two ways, which must agree.
 //! [`write_listing`] puts all of that together.
 //!
 //! ```
@@ -16,6 +17,7 @@
 //! assert_eq!(recorder.init_actions().len(), 2);
 //! ```
 
+mod agreement;
 mod bounds;
 mod listing;
 mod parse;
@@ -24,6 +26,7 @@ mod records;
 mod refusal;
 mod run;
 
+pub use agreement::is_left_out_of_agreement;
 pub use bounds::{largest_level_count, MAX_BUFFER_SIZE};
 pub use listing::{
     append_region_numbers, buffer_copy_numbers, buffer_texture_copy_numbers, sheet_text,
@@ -32,7 +35,7 @@ pub use listing::{
 pub use parse::{parse, IllSheet, MAX_COPIES, MAX_RECORDS, MAX_SHEET_BYTES};
 pub use prepared::Prepared;
 pub use records::{
-    Buffer, BufferView, Copy, CopyKind, Device, Extent, Sheet, Texture, TextureView,
+    Buffer, BufferView, Copy, CopyKind, Device, Extent, MemoryView, Sheet, Texture, TextureView,
 };
 pub use reference_core::{CommandEncoderError, InitAction, MemoryInitKind, Recorder};
 pub use refusal::{Refusal, Side};

@@ -3,8 +3,8 @@
 use std::io::{self, Write};
 
 use crate::{
-    parse, run_copy, BufferView, Copy, Extent, IllSheet, InitAction, MemoryInitKind, Objects,
-    Outcome, Recorder, Sheet, TextureView,
+    parse, run_copy, BufferView, Copy, Extent, IllSheet, InitAction, MemoryInitKind, MemoryView,
+    Objects, Outcome, Recorder, Sheet, TextureView,
 };
 
 /// An absent stride among a region's numbers.
@@ -134,12 +134,16 @@ impl Lines {
                 self.numbers(&refusal.numbers());
                 self.end();
             }
-            Outcome::Panicked(message) => {
-                self.text(" panicked ");
-                self.text(message);
-                self.end();
-            }
+            Outcome::Panicked(message) => self.trouble(" panicked ", message),
+            Outcome::Disagreed(message) => self.trouble(" disagreed ", message),
         }
+    }
+
+    /// What no planner prints.
+    fn trouble(&mut self, word: &str, message: &str) {
+        self.text(word);
+        self.text(message);
+        self.end();
     }
 
     fn accepted(&mut self, bytes_checked: u64, recorder: &Recorder) {
@@ -302,14 +306,34 @@ impl Lines {
                 self.texture_view(destination);
                 self.extent(size);
             }
+            Copy::MemoryToTexture {
+                source,
+                destination,
+                size,
+            } => {
+                self.text("5");
+                self.memory_view(source);
+                self.texture_view(destination);
+                self.extent(size);
+            }
         }
         self.end();
     }
 
     fn buffer_view(&mut self, view: &BufferView) {
         self.numbers(&[view.buffer.into(), view.offset]);
-        self.number_or_absent(view.bytes_per_row.map(u64::from));
-        self.number_or_absent(view.rows_per_image.map(u64::from));
+        self.strides([view.bytes_per_row, view.rows_per_image]);
+    }
+
+    fn memory_view(&mut self, view: &MemoryView) {
+        self.numbers(&[view.length, view.offset]);
+        self.strides([view.bytes_per_row, view.rows_per_image]);
+    }
+
+    fn strides(&mut self, strides: [Option<u32>; 2]) {
+        for stride in strides {
+            self.number_or_absent(stride.map(u64::from));
+        }
     }
 
     fn texture_view(&mut self, view: &TextureView) {
@@ -361,4 +385,22 @@ pub fn sheet_text(sheet: &Sheet) -> Vec<u8> {
         lines.copy(copy);
     }
     lines.0
+}
+
+#[cfg(test)]
+mod tests {
+    use super::*;
+
+    /// Troubles have lines of their own, which no planner prints.
+    #[test]
+    fn troubles() {
+        for (outcome, expected) in [
+            (Outcome::Panicked("alas".into()), "copy 7 panicked alas\n"),
+            (Outcome::Disagreed("no".into()), "copy 7 disagreed no\n"),
+        ] {
+            let mut lines = Lines::default();
+            lines.outcome(7, &outcome, &Recorder::new());
+            assert_eq!(lines.0, expected.as_bytes());
+        }
+    }
 }

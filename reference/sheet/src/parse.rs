@@ -2,7 +2,7 @@
 
 use std::ops::RangeInclusive;
 
-use crate::{Buffer, BufferView, Copy, Device, Extent, Sheet, Texture, TextureView};
+use crate::{Buffer, BufferView, Copy, Device, Extent, MemoryView, Sheet, Texture, TextureView};
 
 /// The most bytes of a sheet.
 pub const MAX_SHEET_BYTES: usize = 65_536;
@@ -203,6 +203,11 @@ fn copy(fields: &mut Fields) -> Option<Copy> {
             destination: texture_view(fields)?,
             size: extent(fields)?,
         }),
+        5 => Some(Copy::MemoryToTexture {
+            source: memory_view(fields)?,
+            destination: texture_view(fields)?,
+            size: extent(fields)?,
+        }),
         _ => None,
     }
 }
@@ -210,6 +215,15 @@ fn copy(fields: &mut Fields) -> Option<Copy> {
 fn buffer_view(fields: &mut Fields) -> Option<BufferView> {
     Some(BufferView {
         buffer: fields.u32()?,
+        offset: fields.u64()?,
+        bytes_per_row: fields.u32_or_absent()?,
+        rows_per_image: fields.u32_or_absent()?,
+    })
+}
+
+fn memory_view(fields: &mut Fields) -> Option<MemoryView> {
+    Some(MemoryView {
+        length: fields.u64()?,
         offset: fields.u64()?,
         bytes_per_row: fields.u32_or_absent()?,
         rows_per_image: fields.u32_or_absent()?,

@@ -4,7 +4,7 @@ use std::sync::Arc;
 
 use reference_core::{self as core, CommandEncoderError, Recorder};
 
-use crate::run::{core_extent, set_layout, set_view, CoreBufferInfo, CoreTextureInfo};
+use crate::run::{core_extent, memory_info, set_layout, set_view, CoreBufferInfo, CoreTextureInfo};
 use crate::{BufferView, Copy, Objects, TextureView};
 
 /// A copy in the types of the Rust's functions, with objects of its own.
@@ -38,6 +38,11 @@ enum Arguments {
         destination: CoreTextureInfo,
         size: wgt::Extent3d,
     },
+    MemoryToTexture {
+        source: core::MemoryInfo,
+        destination: CoreTextureInfo,
+        size: wgt::Extent3d,
+    },
 }
 
 impl Prepared {
@@ -50,8 +55,8 @@ impl Prepared {
         })
     }
 
-    /// One call of the Rust's function. The recorder holds the regions and
-    /// ranges afterwards.
+    /// One call of the Rust's function, or of its rules on a write from memory.
+    /// The recorder holds the regions and ranges afterwards.
     #[inline]
     pub fn record(&self, recorder: &mut Recorder) -> Result<(), CommandEncoderError> {
         let device = &self.device;
@@ -85,6 +90,25 @@ impl Prepared {
                 destination,
                 size,
             } => recorder.copy_texture_to_texture(device, source, destination, size),
+            Arguments::MemoryToTexture {
+                source,
+                destination,
+                size,
+            } => recorder.copy_memory_to_texture(device, source, destination, size),
+        }
+    }
+
+    /// The same, but a write from memory by the body of `Queue::write_texture`,
+    /// with nothing staged.
+    #[inline]
+    pub fn record_by_queue(&self, recorder: &mut Recorder) -> Result<(), CommandEncoderError> {
+        match &self.arguments {
+            Arguments::MemoryToTexture {
+                source,
+                destination,
+                size,
+            } => recorder.queue_write_texture_unstaged(&self.device, source, destination, size),
+            _ => self.record(recorder),
         }
     }
 }
@@ -117,6 +141,15 @@ impl Arguments {
                 size,
             } => Some(Self::TextureToTexture {
                 source: texture_info(objects, source)?,
+                destination: texture_info(objects, destination)?,
+                size: core_extent(size),
+            }),
+            Copy::MemoryToTexture {
+                source,
+                destination,
+                size,
+            } => Some(Self::MemoryToTexture {
+                source: memory_info(source),
                 destination: texture_info(objects, destination)?,
                 size: core_extent(size),
             }),
@@ -154,7 +187,7 @@ fn buffer_info(objects: &Objects, view: &BufferView) -> Option<CoreBufferInfo> {
     Some(info)
 }
 
-fn texture_info(objects: &Objects, view: &TextureView) -> Option<CoreTextureInfo> {
+pub(crate) fn texture_info(objects: &Objects, view: &TextureView) -> Option<CoreTextureInfo> {
     let object = objects.textures.get(view.texture as usize)?.as_ref()?;
     let mut info = object.as_source.clone();
     set_view(&mut info, view);

@@ -53,6 +53,16 @@ pub struct BufferView {
     pub rows_per_image: Option<u32>,
 }
 
+/// The block of memory that a write takes its data from.
+#[derive(Clone, Copy, Debug, Eq, PartialEq)]
+pub struct MemoryView {
+    /// The block's bytes; no record bounds them.
+    pub length: u64,
+    pub offset: u64,
+    pub bytes_per_row: Option<u32>,
+    pub rows_per_image: Option<u32>,
+}
+
 /// A texture side of a copy.
 #[derive(Clone, Copy, Debug, Eq, PartialEq)]
 pub struct TextureView {
@@ -99,24 +109,31 @@ pub enum Copy {
         destination: TextureView,
         size: Extent,
     },
+    MemoryToTexture {
+        source: MemoryView,
+        destination: TextureView,
+        size: Extent,
+    },
 }
 
-/// Which of the four functions a copy asks for.
+/// From what to what a copy goes.
 #[derive(Clone, Copy, Debug, Eq, PartialEq)]
 pub enum CopyKind {
     BufferToBuffer,
     BufferToTexture,
     TextureToBuffer,
     TextureToTexture,
+    MemoryToTexture,
 }
 
 impl CopyKind {
-    /// The kinds in the order of their numbers, 1 to 4.
-    pub const ALL: [Self; 4] = [
+    /// The kinds in the order of their numbers, 1 to 5.
+    pub const ALL: [Self; 5] = [
         Self::BufferToBuffer,
         Self::BufferToTexture,
         Self::TextureToBuffer,
         Self::TextureToTexture,
+        Self::MemoryToTexture,
     ];
 }
 
@@ -127,6 +144,7 @@ impl Copy {
             Self::BufferToTexture { .. } => CopyKind::BufferToTexture,
             Self::TextureToBuffer { .. } => CopyKind::TextureToBuffer,
             Self::TextureToTexture { .. } => CopyKind::TextureToTexture,
+            Self::MemoryToTexture { .. } => CopyKind::MemoryToTexture,
         }
     }
 }

@@ -39,6 +39,10 @@ impl Refusal {
         Self::on_side(2, side)
     }
 
+    pub const fn texture_usage(side: Side) -> Self {
+        Self::on_side(6, side)
+    }
+
     pub const fn buffer_record(side: Side) -> Self {
         Self::on_side(3, side)
     }
@@ -100,7 +104,7 @@ impl Refusal {
     ///
     /// # Panics
     ///
-    /// If the error is one that the four copy functions do not give here:
+    /// If the error is one that the copy functions do not give here:
     /// those of external images, clears and mapped buffers.
     pub(crate) fn from_error(error: CommandEncoderError) -> Self {
         let CommandEncoderError::Transfer(error) = error;
@@ -112,7 +116,7 @@ impl Refusal {
         match error {
             E::SameSourceDestinationBuffer => Self::plain(4),
             E::MissingBufferUsage(error) => Self::on_side(5, buffer_usage_side(&error)),
-            E::MissingTextureUsage(error) => Self::on_side(6, texture_usage_side(&error)),
+            E::MissingTextureUsage(error) => Self::texture_usage(texture_usage_side(&error)),
             E::BufferStartOffsetOverrun {
                 start_offset,
                 buffer_size,

@@ -7,7 +7,11 @@ use std::sync::Arc;
 
 use reference_core::{self as core, CopySide, Recorder};
 
-use crate::{Buffer, BufferView, Copy, Device, Extent, Refusal, Sheet, Side, Texture, TextureView};
+use crate::agreement::{self, QueueWrite};
+use crate::{
+    Buffer, BufferView, Copy, Device, Extent, MemoryView, Refusal, Sheet, Side, Texture,
+    TextureView,
+};
 
 pub(crate) type CoreBufferInfo = wgt::TexelCopyBufferInfo<Arc<core::Buffer>>;
 pub(crate) type CoreTextureInfo = wgt::TexelCopyTextureInfo<Arc<core::Texture>>;
@@ -23,6 +27,9 @@ pub enum Outcome {
     Refused(Refusal),
     /// The Rust panicked, with this message.
     Panicked(String),
+    /// `Queue::write_texture` parts from the rules in the customer's order where
+    /// it should not; this is how.
+    Disagreed(String),
 }
 
 /// The device, textures and buffers of a sheet as the copy functions want
@@ -32,6 +39,8 @@ pub struct Objects {
     pub(crate) device: Arc<core::Device>,
     pub(crate) textures: Vec<Option<TextureObject>>,
     pub(crate) buffers: Vec<Option<CoreBufferInfo>>,
+    /// What `Queue::write_texture` did last.
+    pub(crate) queue: Recorder,
 }
 
 /// A texture with one view for each side, so that a copy within one texture
@@ -39,7 +48,7 @@ pub struct Objects {
 #[derive(Debug)]
 pub(crate) struct TextureObject {
     pub(crate) as_source: CoreTextureInfo,
-    as_destination: CoreTextureInfo,
+    pub(crate) as_destination: CoreTextureInfo,
 }
 
 impl Objects {
@@ -60,6 +69,7 @@ impl Objects {
                 .zip(buffers)
                 .map(|(index, buffer)| buffer_object(index, buffer))
                 .collect(),
+            queue: Recorder::new(),
         }
     }
 
@@ -174,6 +184,17 @@ pub(crate) fn set_layout(info: &mut CoreBufferInfo, view: &BufferView) {
     };
 }
 
+pub(crate) fn memory_info(view: &MemoryView) -> core::MemoryInfo {
+    core::MemoryInfo {
+        length: view.length,
+        layout: wgt::TexelCopyBufferLayout {
+            offset: view.offset,
+            bytes_per_row: view.bytes_per_row,
+            rows_per_image: view.rows_per_image,
+        },
+    }
+}
+
 pub(crate) fn set_view(info: &mut CoreTextureInfo, view: &TextureView) {
     info.mip_level = view.level;
     info.origin = wgt::Origin3d {
@@ -206,24 +227,41 @@ pub(crate) fn core_extent(size: &Extent) -> wgt::Extent3d {
 }
 
 /// Runs a copy and asks for the bytes that it was checked for; a panic of the
-/// Rust is an outcome too.
+/// Rust is an outcome too. A write from memory is asked of `Queue::write_texture`
+/// as well.
 pub fn run_copy(recorder: &mut Recorder, objects: &mut Objects, copy: &Copy) -> Outcome {
+    run_copy_beside(recorder, objects, copy, &Recorder::queue_write_texture)
+}
+
+/// Runs a copy; a write from memory must agree with `queue_write`.
+pub(crate) fn run_copy_beside(
+    recorder: &mut Recorder,
+    objects: &mut Objects,
+    copy: &Copy,
+    queue_write: QueueWrite,
+) -> Outcome {
     let run = AssertUnwindSafe(|| {
-        record_copy(recorder, objects, copy)?;
-        Ok(bytes_checked(recorder, objects, copy))
+        let recorded = record_copy(recorder, objects, copy);
+        if let Some(words) = agreement::difference(&recorded, recorder, objects, copy, queue_write)
+        {
+            return Outcome::Disagreed(words);
+        }
+        match recorded {
+            Ok(()) => Outcome::Accepted {
+                bytes_checked: bytes_checked(recorder, objects, copy),
+            },
+            Err(refusal) => Outcome::Refused(refusal),
+        }
     });
     RUNNING_COPY.set(true);
     let result = panic::catch_unwind(run);
     RUNNING_COPY.set(false);
-    match result {
-        Ok(Ok(bytes_checked)) => Outcome::Accepted { bytes_checked },
-        Ok(Err(refusal)) => Outcome::Refused(refusal),
-        Err(payload) => Outcome::Panicked(panic_message(payload.as_ref())),
-    }
+    result.unwrap_or_else(|payload| Outcome::Panicked(panic_message(payload.as_ref())))
 }
 
-/// Runs a copy and no more: one call of the Rust's function, after indices and
-/// records. The recorder holds the regions and ranges afterwards.
+/// Runs a copy and no more: one call of the Rust's function, or of its rules on
+/// a write from memory, after indices and records. The recorder holds the
+/// regions and ranges afterwards.
 ///
 /// # Panics
 ///
@@ -318,6 +356,25 @@ pub fn record_copy(
                 &core_extent(size),
             )
         }
+        Copy::MemoryToTexture {
+            source,
+            destination,
+            size,
+        } => {
+            objects.check_texture_index(destination)?;
+            let texture = find_texture(
+                &mut objects.textures,
+                destination.texture,
+                Side::Destination,
+            )?;
+            set_view(&mut texture.as_destination, destination);
+            recorder.copy_memory_to_texture(
+                &objects.device,
+                &memory_info(source),
+                &texture.as_destination,
+                &core_extent(size),
+            )
+        }
     }
     .map_err(Refusal::from_error)
 }
@@ -336,12 +393,11 @@ fn texture_at(textures: &[Option<TextureObject>], index: u32) -> &TextureObject 
 
 /// The bytes for which the copy just accepted was checked.
 fn bytes_checked(recorder: &Recorder, objects: &Objects, copy: &Copy) -> u64 {
-    let linear_data = |buffer: u32, side, texture, size| {
-        let buffer = objects.buffers[buffer as usize].as_ref();
-        let buffer = buffer.expect("the record is within bounds");
-        core::bytes_in_linear_texture_data(buffer, side, texture, &core_extent(size))
+    let linear_data = |data: core::MemoryInfo, side, texture, size| {
+        core::bytes_in_linear_texture_data(&data, side, texture, &core_extent(size))
             .expect("the copy was accepted")
     };
+    let texture = |view: &TextureView| texture_at(&objects.textures, view.texture);
     match copy {
         Copy::BufferToBuffer { .. } => match recorder.encoder().buffer_copies.as_slice() {
             [region] => region.size.get(),
@@ -352,21 +408,39 @@ fn bytes_checked(recorder: &Recorder, objects: &Objects, copy: &Copy) -> u64 {
             destination,
             size,
         } => {
-            let texture = texture_at(&objects.textures, destination.texture);
-            let view = &texture.as_destination;
-            linear_data(source.buffer, CopySide::Source, view, size)
+            let data = data_in_buffer(objects, source);
+            let view = &texture(destination).as_destination;
+            linear_data(data, CopySide::Source, view, size)
         }
         Copy::TextureToBuffer {
             source,
             destination,
             size,
         } => {
-            let texture = texture_at(&objects.textures, source.texture);
-            let view = &texture.as_source;
-            linear_data(destination.buffer, CopySide::Destination, view, size)
+            let data = data_in_buffer(objects, destination);
+            let view = &texture(source).as_source;
+            linear_data(data, CopySide::Destination, view, size)
         }
         Copy::TextureToTexture { .. } => 0,
+        Copy::MemoryToTexture {
+            source,
+            destination,
+            size,
+        } => {
+            let view = &texture(destination).as_destination;
+            linear_data(memory_info(source), CopySide::Source, view, size)
+        }
     }
+}
+
+/// A buffer's data, measured as a block of memory is.
+fn data_in_buffer(objects: &Objects, view: &BufferView) -> core::MemoryInfo {
+    memory_info(&MemoryView {
+        length: buffer_at(&objects.buffers, view.buffer).size(),
+        offset: view.offset,
+        bytes_per_row: view.bytes_per_row,
+        rows_per_image: view.rows_per_image,
+    })
 }
 
 /// A panic's message on one line.

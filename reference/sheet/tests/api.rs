@@ -17,15 +17,17 @@ fn region_numbers() {
             "1 0 4 1 8 12",
             "3 0 8 - - 0 0 1 0 1 0 2 1 1",
             "4 0 0 1 0 0 0 1 0 2 0 1 0 2 1 1",
+            "5 99 7 2 - 0 0 1 0 1 0 2 1 1",
         ],
     );
     let sheet = parse(text.as_bytes()).unwrap();
     let mut objects = Objects::new(&sheet);
     let mut recorder = Recorder::new();
-    let expected: [&[u64]; 3] = [
+    let expected: [&[u64]; 4] = [
         &[4, 8, 12],
         &[8, ABSENT, ABSENT, 0, 1, 1, 0, 0, 1, 2, 1, 1],
         &[0, 0, 1, 0, 0, 1, 0, 1, 2, 0, 0, 1, 2, 1, 1],
+        &[7, 2, ABSENT, 0, 1, 1, 0, 0, 1, 2, 1, 1],
     ];
     for (copy, expected) in sheet.copies.iter().zip(expected) {
         assert_eq!(record_copy(&mut recorder, &mut objects, copy), Ok(()));
@@ -53,6 +55,10 @@ fn prepared_copies() {
             "4 0 0 1 0 0 0 1 0 2 0 1 0 2 1 1",
             "4 0 0 1 0 0 0 2 0 2 0 1 0 2 1 1",
             "1 0 4 2 8 12",
+            "5 9 1 5 1 0 0 1 0 0 0 2 1 2",
+            "5 7 1 5 1 0 0 1 0 0 0 2 1 2",
+            "5 9 1 5 1 2 0 1 0 0 0 2 1 2",
+            "5 9 1 5 1 3 0 1 0 0 0 2 1 2",
         ],
     );
     let sheet = parse(text.as_bytes()).unwrap();
@@ -67,6 +73,13 @@ fn prepared_copies() {
         assert_eq!(prepared.record(&mut again).is_ok(), recorded.is_ok());
         assert_eq!(region_numbers_of(&again), region_numbers_of(&recorder));
         assert_eq!(again.init_actions(), recorder.init_actions());
+        assert_eq!(
+            prepared.record_by_queue(&mut again).is_ok(),
+            recorded.is_ok()
+        );
+        assert_eq!(again.init_actions(), recorder.init_actions());
+        let counts = [&again, &recorder].map(|of| of.encoder().buffer_texture_copies.len());
+        assert_eq!(counts[0], counts[1]);
     }
 }
 

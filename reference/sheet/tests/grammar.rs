@@ -79,7 +79,7 @@ fn ill_lines_by_section() {
         (6, "- 12"),
         (7, "257"),
         (8, "0 0 0 256 8 0 0 0 0 0 0 8 8 2"),
-        (8, "5 0 0 256 8 0 0 0 0 0 0 8 8 2"),
+        (8, "6 0 0 256 8 0 0 0 0 0 0 8 8 2"),
         (8, "- 0 0 256 8 0 0 0 0 0 0 8 8 2"),
         (8, "2 0 0 256 8 0 0 0 0 0 0 8 8"),
         (8, "2 0 0 256 8 0 0 0 0 0 0 8 8 2 1"),
@@ -94,6 +94,17 @@ fn ill_lines_by_section() {
         (8, "2 0 0 256 8 0 0 0 0 0 0 8 8 -"),
         (8, "4 0 0 0 0 0 0 0 0 0 0 1 6 4 4 2"),
         (8, "4 0 0 0 0 0 6 0 0 0 0 1 0 4 4 2"),
+        (8, "5 3872 0 256 8 0 0 0 0 0 0 8 8"),
+        (8, "5 3872 0 256 8 0 0 0 0 0 0 8 8 2 1"),
+        (8, "5 - 0 256 8 0 0 0 0 0 0 8 8 2"),
+        (8, "5 18446744073709551616 0 256 8 0 0 0 0 0 0 8 8 2"),
+        (8, "5 3872 - 256 8 0 0 0 0 0 0 8 8 2"),
+        (8, "5 3872 18446744073709551616 256 8 0 0 0 0 0 0 8 8 2"),
+        (8, "5 3872 0 4294967296 8 0 0 0 0 0 0 8 8 2"),
+        (8, "5 3872 0 256 4294967296 0 0 0 0 0 0 8 8 2"),
+        (8, "5 3872 0 256 8 4294967296 0 0 0 0 0 8 8 2"),
+        (8, "5 3872 0 256 8 0 0 0 0 0 6 8 8 2"),
+        (8, "5 3872 0 256 8 0 0 0 0 0 0 8 8 -"),
         (8, "1 0 0 1 0"),
         (8, "1 0 0 1 0 18446744073709551616"),
     ] {
@@ -116,6 +127,28 @@ fn widest_fields() {
     let wide = "2 4294967295 18446744073709551615 4294967295 4294967295 4294967295 \
                 4294967295 4294967295 4294967295 4294967295 5 4294967295 4294967295 4294967295";
     assert_eq!(listing(with_line(8, wide)), "copy 0 refused 1 0 0 0 0 0\n");
+    let wider = wide.replacen("2 4294967295", "5 18446744073709551615", 1);
+    assert_eq!(
+        listing(with_line(8, &wider)),
+        "copy 0 refused 1 0 0 0 0 0\n"
+    );
+}
+
+/// The length is no index: there is no buffer that it could name.
+#[test]
+fn lengths_of_memory() {
+    let textures = ["0 2 1 1 1 1 1 3"];
+    for (length, expected) in [
+        ("0", "refused 8 1 0 0 1 0"),
+        ("1", "ok 1 1 1"),
+        ("64", "ok 1 1 1"),
+        ("4294967296", "ok 1 1 1"),
+        ("18446744073709551615", "ok 1 1 1"),
+    ] {
+        let copy = format!("5 {length} 0 - - 0 0 0 0 0 0 1 1 1");
+        let text = listing(sheet(&textures, &[], &[&copy]));
+        assert!(text.starts_with(&format!("copy 0 {expected}\n")), "{text}");
+    }
 }
 
 #[test]
@@ -184,6 +217,9 @@ fn indices_then_records_then_copies() {
             "4 0 0 0 0 0 0 2 0 0 0 0 0 1 1 1",
             "4 0 0 0 0 0 0 0 0 0 0 0 0 1 1 1",
             "4 1 9 0 0 0 0 0 0 0 0 0 0 1 1 1",
+            "5 0 0 - - 2 9 0 0 0 0 1 1 1",
+            "5 2 0 - - 0 9 0 0 0 0 1 1 1",
+            "5 2 0 - - 1 9 0 0 0 0 1 1 1",
         ],
     );
     assert_eq!(
@@ -203,6 +239,9 @@ fn indices_then_records_then_copies() {
             "copy 11 refused 1 0 0 0 0 0",
             "copy 12 refused 2 1 0 0 0 0",
             "copy 13 refused 2 2 0 0 0 0",
+            "copy 14 refused 1 0 0 0 0 0",
+            "copy 15 refused 2 2 0 0 0 0",
+            "copy 16 refused 13 0 0 9 0 1",
         ])
     );
 }
@@ -211,7 +250,11 @@ fn indices_then_records_then_copies() {
 fn facts_of_the_device() {
     let textures = ["15 2 8 8 1 1 1 3"];
     let buffers = ["4096 28", "4096 40"];
-    let copies = ["2 0 0 256 - 0 0 0 0 0 0 8 8 1", "1 0 0 1 0 4"];
+    let copies = [
+        "2 0 0 256 - 0 0 0 0 0 0 8 8 1",
+        "1 0 0 1 0 4",
+        "5 64 0 8 - 0 0 0 0 0 0 8 8 1",
+    ];
     let refused = "refused 34 0 0 0 0 0";
     for (device, first, second) in [
         ("1 1", false, false),
@@ -222,5 +265,6 @@ fn facts_of_the_device() {
         let text = listing(sheet_on(device, &textures, &buffers, &copies));
         assert_eq!(text.contains(&format!("copy 0 {refused}")), first);
         assert_eq!(text.contains(&format!("copy 1 {refused}")), second);
+        assert_eq!(text.contains(&format!("copy 2 {refused}")), first);
     }
 }

@@ -186,6 +186,13 @@ fn refused_beyond_the_standard() {
         texel,
         "copy 0 refused 34 0 0 0 0 0",
     );
+    refused(
+        "0 1",
+        &["16 2 1 1 1 1 1 3"],
+        &[],
+        "5 2 0 - - 0 0 0 0 0 0 1 1 1",
+        "copy 0 refused 34 0 0 0 0 0",
+    );
     let lacking = "3 0 0 - - 0 0 0 0 0 2 1 1 1";
     refused(
         "1 1",
@@ -235,5 +242,17 @@ fn whole_levels_cleared_first() {
             "b 0 0 8 1",
             "r 0 - - 1 0 0 0 0 1 4 4 1",
         ],
+    );
+}
+
+/// `Queue::write_texture` asks for the usage before the range, and says 6: that is
+/// held in `agreement.rs`.
+#[test]
+fn range_before_usage() {
+    check(
+        &["0 2 1 1 1 1 1 1"],
+        &[],
+        "5 1 0 - - 0 1 0 0 0 0 1 1 1",
+        &["copy 0 refused 13 0 0 1 0 1"],
     );
 }

@@ -76,12 +76,22 @@ pub fn from_start(texture: &Texture) -> TexelCopyTextureInfo<'_> {
     }
 }
 
+/// Rows from an offset on, in given strides.
+pub fn layout(
+    offset: u64,
+    bytes_per_row: Option<u32>,
+    rows_per_image: Option<u32>,
+) -> TexelCopyBufferLayout {
+    TexelCopyBufferLayout {
+        offset,
+        bytes_per_row,
+        rows_per_image,
+    }
+}
+
 /// A buffer with its rows at an offset, the strides left out.
 pub fn dense(buffer: &Buffer, offset: u64) -> TexelCopyBufferInfo<'_> {
-    let layout = TexelCopyBufferLayout {
-        offset,
-        ..Default::default()
-    };
+    let layout = layout(offset, None, None);
     TexelCopyBufferInfo { buffer, layout }
 }
 
@@ -91,11 +101,7 @@ pub fn strided(
     bytes_per_row: Option<u32>,
     rows_per_image: Option<u32>,
 ) -> TexelCopyBufferInfo<'_> {
-    let layout = TexelCopyBufferLayout {
-        offset: 0,
-        bytes_per_row,
-        rows_per_image,
-    };
+    let layout = layout(0, bytes_per_row, rows_per_image);
     TexelCopyBufferInfo { buffer, layout }
 }
 

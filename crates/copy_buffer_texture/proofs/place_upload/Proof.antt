@@ -1,15 +1,14 @@
 -- `place_upload` meets its contract.
 -- Assumes nothing.
 use borrow.Author.Needs.{needs}
-use Rattle.copy_buffer_texture.proofs.Rules.{planned, end-fits}
-use Rattle.refusals.specs.declared.CopySide.the-variants.{Source}
+use Rattle.copy_buffer_texture.proofs.Rules.{planned, source-end-fits}
 use Rattle.copy_buffer_texture.specs.Stages.{uploadPlaced}
 use Rattle.copy_buffer_texture.proofs.place_upload.Statement.{statement}
 use Rattle.copy_buffer_texture.proofs.place_upload.Tie as tie
 
 upload-plan-requires : tie.Need-upload-plan-requires
 unfolding uploadPlaced
-upload-plan-requires c κs = let k = c .before .before .before in let v = k .before .before in let s = v .before in end-fits _ (s .args .layout) (s .args .t .format) (s .args .view .aspect) (s .args .b) Source (s .args .size) _ (s .pre) (v .validate-linear-texture-data .ensures) (k .linear .given .1)
+upload-plan-requires c κs = let k = c .before .before .before in let v = k .before .before in let s = v .before in source-end-fits _ (s .args .layout) (s .args .t .format) (s .args .view .aspect) (s .args .source) (s .args .size) _ (s .pre) (v .check-source-data .ensures) (k .linear .given .1)
 
 pub place-upload-spec : {M : Type 1} → statement M
 unfolding uploadPlaced

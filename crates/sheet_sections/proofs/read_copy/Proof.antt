@@ -16,9 +16,11 @@ returns-2 c = rw (ne-eqb _ _ (c .before .before .before .if1 .left), eq-eqb _ _ 
 
 returns-3 : tie.Need-returns-3
 unfolding copyCodes bufferTextureCodes
-returns-3 c = rw (ne-eqb _ _ (c .before .before .before .if1 .left), ne-eqb _ _ (c .before .before .if2 .left)) (c .read-line3 .ensures)
+returns-3 c =
+    let k = c .before .before in
+    rw (ne-eqb _ _ (k .before .before .if1 .left), ne-eqb _ _ (k .before .if2 .left), ← k .linear-code .ensures) (c .read-line3 .ensures)
 
 pub read-copy-spec : {M : Type 1} → statement M
 read-copy-spec =
     tie.close
-    (tie.spec (search needs) (search needs) returns (search needs) (search needs) returns-2 (search needs) (search needs) returns-3)
+    (tie.spec (search needs) (search needs) returns (search needs) (search needs) returns-2 (search needs) (search needs) (search needs) returns-3)

@@ -4,7 +4,7 @@ use std::io;
 
 use copy_sheet::{Buffer, BufferView, Copy, Extent, Texture, TextureView};
 
-use super::linear::both_ways;
+use super::linear::every_way;
 use crate::{Case, Emit, Packer};
 
 /// Format, dimension, width, height, depth, levels, samples.
@@ -138,7 +138,11 @@ fn add_box(
         aspect: single_aspect(texture.format),
         ..view
     };
-    let [to_texture, to_buffer] = both_ways(layout, with_buffer, size);
+    let buffer = Buffer {
+        size: 1 << 16,
+        usage: Buffer::COPY_SRC | Buffer::COPY_DST,
+    };
+    let [to_texture, to_buffer, from_memory] = every_way(layout, buffer.size, with_buffer, size);
     let between = |source, destination| Copy::TextureToTexture {
         source,
         destination,
@@ -147,6 +151,7 @@ fn add_box(
     let copies = [
         to_texture,
         to_buffer,
+        from_memory,
         between(view, still),
         between(still, view),
     ];
@@ -154,10 +159,7 @@ fn add_box(
         packer.add(&Case {
             device: Case::DEVICE,
             textures: &[*texture, *texture],
-            buffers: &[Buffer {
-                size: 1 << 16,
-                usage: Buffer::COPY_SRC | Buffer::COPY_DST,
-            }],
+            buffers: &[buffer],
             copy,
         })?;
     }

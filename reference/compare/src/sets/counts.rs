@@ -96,9 +96,10 @@ fn largest_sheet() -> Vec<u8> {
         format!("2 {wide} {wider} {wide} {wide} {view} {size}"),
         format!("3 {wide} {wider} {wide} {wide} {view} {size}"),
         format!("4 {view} {view} {size}"),
+        format!("5 {wider} {wider} {wide} {wide} {view} {size}"),
     ];
-    let mut copy_lines = vec![copies[3].as_str(); 253];
-    copy_lines.extend(copies[..3].iter().map(String::as_str));
+    let mut copy_lines = vec![copies[4].as_str(); 252];
+    copy_lines.extend(copies[..4].iter().map(String::as_str));
     sheet_lines(
         "1 1",
         &[texture.as_str(); 64],

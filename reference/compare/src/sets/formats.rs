@@ -4,7 +4,7 @@ use std::io;
 
 use copy_sheet::{Buffer, BufferView, Copy, Device, Extent, Texture, TextureView};
 
-use super::linear::both_ways;
+use super::linear::every_way;
 use crate::{Case, Emit, Packer};
 
 /// One more than there are.
@@ -27,7 +27,7 @@ const fn device(depth_texture_and_buffer_copies: bool, unrestricted_index_buffer
     }
 }
 
-/// Every format, aspect, dimension, count of samples and device, both ways.
+/// Every format, aspect, dimension, count of samples and device, every way.
 pub fn with_buffers(emit: &mut Emit) -> io::Result<()> {
     let buffer = Buffer {
         size: 1 << 16,
@@ -43,7 +43,8 @@ pub fn with_buffers(emit: &mut Emit) -> io::Result<()> {
     for device in DEVICES {
         for texture in textures() {
             for aspect in ASPECTS {
-                for copy in both_ways(layout, view(0, aspect), whole(&texture)) {
+                let view = view(0, aspect);
+                for copy in every_way(layout, buffer.size, view, whole(&texture)) {
                     packer.add(&Case {
                         device,
                         textures: &[texture],

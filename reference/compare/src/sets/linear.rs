@@ -2,7 +2,7 @@
 
 use std::io;
 
-use copy_sheet::{Buffer, BufferView, Copy, Extent, Texture, TextureView};
+use copy_sheet::{Buffer, BufferView, Copy, Extent, MemoryView, Texture, TextureView};
 
 use crate::{Case, Emit, Packer};
 
@@ -114,7 +114,7 @@ fn add_layouts(packer: &mut Packer, variant: Variant, size: Extent) -> io::Resul
     Ok(())
 }
 
-/// Both ways, with each size of the buffer.
+/// Every way, with each size of the buffer or memory.
 fn add_copies(
     packer: &mut Packer,
     texture: Texture,
@@ -127,7 +127,7 @@ fn add_copies(
             size: buffer_size,
             usage: Buffer::COPY_SRC | Buffer::COPY_DST,
         };
-        for copy in both_ways(layout, view, size) {
+        for copy in every_way(layout, buffer_size, view, size) {
             packer.add(&Case {
                 device: Case::DEVICE,
                 textures: &[texture],
@@ -153,6 +153,23 @@ pub fn both_ways(layout: BufferView, view: TextureView, size: Extent) -> [Copy; 
             size,
         },
     ]
+}
+
+/// A copy from a buffer to a texture, back, and from memory of this length.
+pub fn every_way(layout: BufferView, length: u64, view: TextureView, size: Extent) -> [Copy; 3] {
+    let [to_texture, to_buffer] = both_ways(layout, view, size);
+    let source = MemoryView {
+        length,
+        offset: layout.offset,
+        bytes_per_row: layout.bytes_per_row,
+        rows_per_image: layout.rows_per_image,
+    };
+    let from_memory = Copy::MemoryToTexture {
+        source,
+        destination: view,
+        size,
+    };
+    [to_texture, to_buffer, from_memory]
 }
 
 fn texture(format: u32, shape: Shape, size: &Extent) -> Texture {

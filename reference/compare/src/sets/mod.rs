@@ -7,6 +7,7 @@ mod counts;
 mod fields;
 mod formats;
 mod linear;
+mod memory;
 mod planes;
 mod records;
 mod rows;
@@ -27,7 +28,7 @@ pub struct Set {
 }
 
 /// The complete sets.
-pub const SETS: [Set; 15] = [
+pub const SETS: [Set; 16] = [
     Set {
         name: "points",
         about: "bench points and the sheets of docs/DIFFERENCES.md",
@@ -36,7 +37,7 @@ pub const SETS: [Set; 15] = [
     },
     Set {
         name: "linear",
-        about: "offset, bytes per row, rows per image and box of buffer and texture copies",
+        about: "offset, bytes per row, rows per image and box of copies with a buffer or memory",
         is_large: true,
         sheets: linear::sheets,
     },
@@ -47,8 +48,15 @@ pub const SETS: [Set; 15] = [
         sheets: rows::sheets,
     },
     Set {
+        name: "memory",
+        about: "strides, offsets and lengths of writes from memory at the ends of 32 and 64 bits",
+        is_large: false,
+        sheets: memory::sheets,
+    },
+    Set {
         name: "formats",
-        about: "format, aspect, dimension, samples and device facts of buffer and texture copies",
+        about:
+            "format, aspect, dimension, samples and device facts of copies with a buffer or memory",
         is_large: false,
         sheets: formats::with_buffers,
     },
@@ -138,6 +146,7 @@ fn every_kind_of_line() -> Vec<u8> {
             "2 0 0 256 8 0 0 0 0 0 0 8 8 2",
             "3 0 16 256 - 0 0 0 0 1 0 8 8 1",
             "4 1 0 0 0 0 0 1 0 0 0 1 0 4 4 2",
+            "5 4096 3 33 - 0 0 0 0 1 0 8 8 1",
         ],
     )
 }

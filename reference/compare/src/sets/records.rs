@@ -5,7 +5,7 @@ use std::io;
 
 use copy_sheet::{Buffer, BufferView, Copy, Extent, Texture, TextureView, MAX_BUFFER_SIZE};
 
-use super::linear::both_ways;
+use super::linear::{both_ways, every_way};
 use crate::{Case, Emit, Packer};
 
 const FORMATS: [u32; 10] = [0, 10, 11, 14, 15, 20, 21, 22, 32, u32::MAX];
@@ -81,16 +81,17 @@ fn add_levels_and_samples(packer: &mut Packer, fields: [u32; 5]) -> io::Result<(
                 samples,
                 usage: COPY_BOTH,
             };
-            packer.add(&Case {
-                device: Case::DEVICE,
-                textures: &[texture],
-                buffers: &[Buffer { size: 4, usage: 12 }],
-                copy: Copy::TextureToBuffer {
-                    source: VIEW,
-                    destination: LAYOUT,
-                    size: NOTHING,
-                },
-            })?;
+            let buffer = Buffer { size: 4, usage: 12 };
+            // As a source, and as a destination.
+            let [_, to_buffer, from_memory] = every_way(LAYOUT, buffer.size, VIEW, NOTHING);
+            for copy in [to_buffer, from_memory] {
+                packer.add(&Case {
+                    device: Case::DEVICE,
+                    textures: &[texture],
+                    buffers: &[buffer],
+                    copy,
+                })?;
+            }
         }
     }
     Ok(())

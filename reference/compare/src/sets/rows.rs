@@ -5,7 +5,7 @@ use std::io;
 
 use copy_sheet::{Buffer, BufferView, Extent, Texture, TextureView};
 
-use super::linear::both_ways;
+use super::linear::every_way;
 use crate::{Case, Emit, Packer};
 
 /// A format, its block's side, and the texels of a row of 256 bytes.
@@ -72,7 +72,7 @@ fn add_layouts(packer: &mut Packer, format: u32, dimension: u32, size: Extent) -
     Ok(())
 }
 
-/// Both ways, with each size of the buffer.
+/// Every way, with each size of the buffer or memory.
 fn add_copies(
     packer: &mut Packer,
     texture: Texture,
@@ -92,7 +92,7 @@ fn add_copies(
             size: buffer_size,
             usage: Buffer::COPY_SRC | Buffer::COPY_DST,
         };
-        for copy in both_ways(layout, view, size) {
+        for copy in every_way(layout, buffer_size, view, size) {
             packer.add(&Case {
                 device: Case::DEVICE,
                 textures: &[texture],

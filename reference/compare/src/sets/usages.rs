@@ -2,7 +2,7 @@
 
 use std::io;
 
-use copy_sheet::{Buffer, BufferView, Copy, Extent, Texture, TextureView};
+use copy_sheet::{Buffer, BufferView, Copy, Extent, MemoryView, Texture, TextureView};
 
 use super::formats::DEVICES;
 use super::linear::both_ways;
@@ -33,6 +33,7 @@ pub fn sheets(emit: &mut Emit) -> io::Result<()> {
     every_buffer_usage(&mut packer)?;
     buffers_and_textures(&mut packer)?;
     between_textures(&mut packer)?;
+    from_memory(&mut packer)?;
     packer.finish()
 }
 
@@ -159,6 +160,38 @@ fn between_textures(packer: &mut Packer) -> io::Result<()> {
                     size: SIZE,
                 },
             })?;
+        }
+    }
+    Ok(())
+}
+
+/// Every usage of a texture, on every device, where the level or the aspect is
+/// there and where it is not: these are asked for before the usage.
+fn from_memory(packer: &mut Packer) -> io::Result<()> {
+    let source = MemoryView {
+        length: 64,
+        offset: 0,
+        bytes_per_row: None,
+        rows_per_image: None,
+    };
+    for device in DEVICES {
+        for usage in TEXTURE_USAGES {
+            for (level, aspect) in [(0, 0), (1, 0), (0, 2), (1, 2)] {
+                packer.add(&Case {
+                    device,
+                    textures: &[texture(usage)],
+                    buffers: &[],
+                    copy: Copy::MemoryToTexture {
+                        source,
+                        destination: TextureView {
+                            level,
+                            aspect,
+                            ..VIEW
+                        },
+                        size: SIZE,
+                    },
+                })?;
+            }
         }
     }
     Ok(())

@@ -1,6 +1,7 @@
 //! Stand-in for the command module around the unmodified `transfer`.
 
 pub(crate) mod encoder;
+pub(crate) mod memory;
 pub(crate) mod memory_init;
 pub(crate) mod recorder;
 
@@ -59,7 +60,13 @@ impl From<InvalidResourceError> for CommandEncoderError {
 /// An encoder in the wrong state; not met.
 pub enum EncoderStateError {}
 
-/// A failed clear; not met, for no clear is asked for.
+impl From<ClearError> for CommandEncoderError {
+    fn from(error: ClearError) -> Self {
+        match error {}
+    }
+}
+
+/// A failed clear; not met.
 #[derive(Clone, Debug)]
 pub enum ClearError {}
 
@@ -77,19 +84,24 @@ impl WebGpuError for ClearError {
     }
 }
 
-/// Never called: no initialisation is due at once.
+/// Has the encoder record the clear. The copies of an encoder ask for none, since
+/// no initialisation is due at once; a write from memory does.
 #[allow(clippy::too_many_arguments)]
 pub(crate) fn clear_texture(
     _texture: &Arc<Texture>,
-    _range: TextureInitRange,
-    _encoder: &mut hal::CommandEncoder,
+    range: TextureInitRange,
+    encoder: &mut hal::CommandEncoder,
     _tracker: &mut TextureTracker,
     _alignments: &hal::Alignments,
     _zero_buffer: &hal::RawBuffer,
     _snatch_guard: &SnatchGuard,
     _instance_flags: wgt::InstanceFlags,
 ) -> Result<(), ClearError> {
-    unreachable!("no initialisation is due at once")
+    encoder.texture_clears.push(hal::TextureClear {
+        levels: range.mip_range,
+        layers: range.layer_range,
+    });
+    Ok(())
 }
 
 /// The commands that the entry points of [`crate::global::Global`] store.

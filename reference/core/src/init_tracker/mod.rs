@@ -3,6 +3,8 @@
 //! No tracker filters anything: every action is recorded with the range that
 //! the copy function asked for.
 
+mod written;
+
 include!(concat!(env!("OUT_DIR"), "/texture_mod.rs"));
 
 use alloc::vec::Vec;
@@ -13,6 +15,7 @@ use crate::resource::Buffer;
 pub(crate) use texture::{
     has_copy_partial_init_tracker_coverage, TextureInitRange, TextureInitTrackerAction,
 };
+pub(crate) use written::WrittenTexture;
 
 /// What a copy does to memory: fill it, or rely on its being initialised.
 #[derive(Clone, Copy, Debug, Eq, PartialEq)]

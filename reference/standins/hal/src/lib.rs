@@ -1,6 +1,8 @@
 //! Stand-in for `wgpu-hal`: the regions of copies, and an encoder that
 //! records the regions it is handed.
 
+use std::ops::Range;
+
 use wgt::{flag_set, TextureAspect, TextureFormat};
 
 /// More levels than any texture has.
@@ -101,35 +103,57 @@ pub struct RawBuffer;
 #[derive(Debug)]
 pub struct RawTexture;
 
+/// The uses before and after a wait.
+#[derive(Debug)]
+pub struct StateTransition<T> {
+    pub from: T,
+    pub to: T,
+}
+
 /// A wait between two uses of a buffer; the trackers hand out none.
 #[derive(Debug)]
-pub struct BufferBarrier;
+pub struct BufferBarrier<'a> {
+    pub buffer: &'a RawBuffer,
+    pub usage: StateTransition<wgt::BufferUses>,
+}
 
 /// A wait between two uses of a texture; the trackers hand out none.
 #[derive(Debug)]
 pub struct TextureBarrier;
 
-/// Alignments asked by clears, which are not reached.
+/// Alignments that the driver asks for.
 #[derive(Debug)]
-pub struct Alignments;
+pub struct Alignments {
+    /// Of the rows of a staging buffer.
+    pub buffer_copy_pitch: wgt::BufferSize,
+}
 
-/// Records the regions of copies in the order of the calls.
+/// Levels and layers to be cleared; ends are excluded.
+#[derive(Clone, Debug, Eq, PartialEq)]
+pub struct TextureClear {
+    pub levels: Range<u32>,
+    pub layers: Range<u32>,
+}
+
+/// Records the clears and the regions of copies in the order of the calls.
 #[derive(Debug, Default)]
 pub struct CommandEncoder {
+    pub texture_clears: Vec<TextureClear>,
     pub buffer_copies: Vec<BufferCopy>,
     pub buffer_texture_copies: Vec<BufferTextureCopy>,
     pub texture_copies: Vec<TextureCopy>,
 }
 
 impl CommandEncoder {
-    /// Forgets the regions and keeps the memory.
+    /// Forgets clears and regions and keeps the memory.
     pub fn clear(&mut self) {
+        self.texture_clears.clear();
         self.buffer_copies.clear();
         self.buffer_texture_copies.clear();
         self.texture_copies.clear();
     }
 
-    pub fn transition_buffers(&mut self, _barriers: &[BufferBarrier]) {}
+    pub fn transition_buffers(&mut self, _barriers: &[BufferBarrier<'_>]) {}
 
     pub fn transition_textures(&mut self, _barriers: &[TextureBarrier]) {}
 

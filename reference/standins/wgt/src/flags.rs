@@ -92,6 +92,7 @@ flag_set! {
     BufferUses: u32 {
         COPY_SRC = 1;
         COPY_DST = 2;
+        MAP_WRITE = 4;
     }
 }
 

@@ -9,6 +9,7 @@ mod format;
 mod layout;
 
 pub mod error;
+pub mod math;
 
 pub use descriptor::{Extent3d, Origin3d, TextureDescriptor, TextureDimension};
 pub use flags::{
