@@ -7,7 +7,7 @@
 : "${root:?is to be set by the script that sources building.sh}"
 program=$root/target/bin/sheet_program
 build_log=$root/target/build.log
-# Beside target/, which 'rt ci' removes: the lock, the pipe that rt prints into, and when the build began.
+# Beside target/, which prove_all removes: the lock, the pipe that rt prints into, and when the build began.
 build_room=$root/.build
 
 say() { printf '%s: %s\n' "${script:-${0##*/}}" "$*" >&2; }
@@ -269,12 +269,15 @@ explain_failure() {
     say "all that rt printed is in $build_log"
 }
 
-# Runs 'rt ci', all proofs and wrong programs, which begins by removing target/, while nothing is built; what it prints is kept in a file.
-run_ci() { # FILE
+# Proves every crate from nothing and runs the programs, while nothing is built; what rt prints is kept in a file.
+prove_all() { # FILE
     lock_builds || return 1
+    rm -rf "$root/target"
+    RT_JOBS=${RT_JOBS:-4}
+    export RT_JOBS
     open_output tee "$1"
     ended=0
-    run_rt ci || ended=$?
+    run_rt check || ended=$?
     close_output
     unlock_builds
     return "$ended"
