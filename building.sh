@@ -269,6 +269,15 @@ explain_failure() {
     say "all that rt printed is in $build_log"
 }
 
+# Has temporary files in memory, where there is room and programs may run: a check writes and removes thousands of small ones, which on a disk is
+# up to a quarter of its time.
+work_in_memory() {
+    [ -z "${TMPDIR:-}" ] && [ -w /dev/shm ] && [ "$(df -Pk /dev/shm | awk 'NR == 2 { print $4 }')" -gt 4000000 ] || return 0
+    trial=$(mktemp -d /dev/shm/trial.XXXXXX)
+    if cp "$(command -v env)" "$trial/env" && "$trial/env" true; then export TMPDIR=/dev/shm; fi 2>/dev/null
+    rm -rf "$trial"
+}
+
 # Proves every crate from nothing and runs the programs, while nothing is built; what rt prints is kept in a file.
 prove_all() { # FILE
     lock_builds || return 1
