@@ -282,7 +282,7 @@ work_in_memory() {
 prove_all() { # FILE
     lock_builds || return 1
     rm -rf "$root/target"
-    RT_JOBS=${RT_JOBS:-4}
+    RT_JOBS=${RT_JOBS:-6}
     export RT_JOBS
     open_output tee "$1"
     ended=0
