@@ -1,3 +1,4 @@
+#![tactic(auto)]
 // Tests that are joined: each half is computed, and no branch is taken.
 ghost use Rattle.std.specs.Prelude.{◌≡◌, ◌&&◌, ◌||◌, [], ◌∷◌};
 ghost use Rattle.conditions.specs.Conditions.{every};

@@ -1,3 +1,4 @@
+#![tactic(auto)]
 // Texels and blocks, extents and origins, and the values that may be absent.
 ghost use Rattle.std.specs.Prelude.{◌≡◌, ◌+◌, ◌<◌, ◌≤◌, ◌^◌};
 ghost use Rattle.measures.specs.Measure.{or_else, multiple, in_blocks, lesser_of, divided_by, round_up, physical_size, is_empty};
