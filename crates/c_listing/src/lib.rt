@@ -1,3 +1,4 @@
+#![tactic(auto)]
 // The listing of a job sheet, for callers in C and Rust.
 ghost use Rattle.std.specs.Prelude.{◌≡◌, ◌+◌, ◌-◌, ◌≤◌, min, length};
 ghost use Rattle.sheet_listing.specs.Listing.{rest_of, listing_of};
@@ -6,7 +7,7 @@ ghost use Rattle.c_listing.specs.Lists.{counted, front_put, Lists};
 use sheet_listing::Listing;
 
 // How many bytes a part had, where the next one belongs, and the state after it.
-#[derive(Drop)]
+#[derive(Clone, Copy)]
 pub struct Listed {
     pub count: usize,
     pub next: usize,

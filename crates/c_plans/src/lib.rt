@@ -1,3 +1,4 @@
+#![tactic(auto)]
 // Plans from the words that callers in other languages keep.
 ghost use Rattle.std.specs.Prelude.{◌≡◌};
 ghost use Rattle.c_plans.specs.Laws.{EveryPlan};

@@ -1,3 +1,4 @@
+#![tactic(auto)]
 // Records and figures from numbers, as callers in other languages hand them.
 ghost use Rattle.std.specs.Prelude.{◌≡◌};
 ghost use Rattle.formats.specs.Aspects.{aspect_of};

@@ -1,3 +1,4 @@
+#![tactic(auto)]
 // The regions of a plan, for callers in C and Rust, who keep the plan as words.
 ghost use Rattle.std.specs.Prelude.{◌≡◌, ◌+◌, ◌%◌, ◌^◌, length, drop, replicate};
 ghost use Rattle.flags.specs.FormatAspects.{PLANE_1};

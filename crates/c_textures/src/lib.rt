@@ -1,3 +1,4 @@
+#![tactic(auto)]
 // Copies between textures, for callers in C and Rust. A crate of its own, so that its archive holds one copy function, into
 // which the compiler inlines the rules, but for the refusal of a range.
 ghost use Rattle.std.specs.Prelude.{◌≡◌};

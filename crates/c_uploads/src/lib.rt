@@ -1,3 +1,4 @@
+#![tactic(auto)]
 // Copies from a buffer into a texture, for callers in C and Rust. A crate of its own, so that its archive holds one copy function, into
 // which the compiler puts every rule.
 ghost use Rattle.std.specs.Prelude.{◌≡◌};

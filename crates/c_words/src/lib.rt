@@ -1,3 +1,4 @@
+#![tactic(auto)]
 // Plans, ranges and refusals as words of 64 bits, which callers in other languages keep.
 ghost use Rattle.std.specs.Prelude.{◌≡◌, [], ◌∷◌, ◌++◌, replicate};
 ghost use Rattle.plan_rows.specs.Rows.{base_numbers, size_numbers};
@@ -108,7 +109,7 @@ pub fn texture_words(p: TexturePlan) -> [u64; 18]
 }
 
 // A range's kind, or 0 for none, its start and its end.
-#[derive(Drop)]
+#[derive(Clone, Copy)]
 pub struct RangeWords {
     pub kind: u64,
     pub start: u64,

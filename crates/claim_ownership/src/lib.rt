@@ -1,3 +1,4 @@
+#![tactic(auto)]
 // Claims on every accepted copy between a buffer, or memory, and a texture. No code runs here: a function's contract is the claim, and the check
 // asks for its proof.
 ghost use Rattle.claim_ownership.specs.Demand3.{EveryCopy};

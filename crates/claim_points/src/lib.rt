@@ -1,3 +1,4 @@
+#![tactic(auto)]
 // The starred points of document 01, and one of copies from memory, evaluated on the definitions. No code runs here: the check asks for the proof.
 ghost use Rattle.claim_points.specs.Points.{Starred, RefusedByStandard};
 

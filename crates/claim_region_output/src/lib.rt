@@ -1,3 +1,4 @@
+#![tactic(auto)]
 // What is written, printed and handed to other languages of a plan is the regions that asking it gives. No code runs here: each
 // function's contract is a claim, and the check asks for its proof.
 ghost use Rattle.claim_region_output.specs.Asking.{EveryPlanEnds};

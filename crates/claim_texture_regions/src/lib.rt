@@ -1,3 +1,4 @@
+#![tactic(auto)]
 // The regions of a copy between textures, as a list, and its ranges. No code runs here: the function's contract is the claims, and the
 // check asks for their proof.
 ghost use Rattle.claim_texture_regions.specs.Claim.{EveryTextureCopy, EveryTextureRange};

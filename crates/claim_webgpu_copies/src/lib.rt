@@ -1,3 +1,4 @@
+#![tactic(auto)]
 // The planner's whole copies against the WebGPU standard's own. No code runs here: each function's contract is a claim, and
 // the check asks for its proof.
 ghost use Rattle.claim_webgpu_copies.specs.Bounds.{RecordBounds};

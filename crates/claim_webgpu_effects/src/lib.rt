@@ -1,3 +1,4 @@
+#![tactic(auto)]
 // What the regions of accepted copies do is what the WebGPU standard's copies do. No code runs here: a function's contract is a
 // claim, and the check asks for its proof.
 ghost use Rattle.claim_webgpu_effects.specs.Effects.{BufferEffects, TextureEffects};

@@ -1,3 +1,4 @@
+#![tactic(auto)]
 // The planner's tables and rules against the WebGPU standard's own. No code runs here: each function's contract is a claim, and
 // the check asks for its proof.
 ghost use Rattle.claim_webgpu_rules.specs.Agreement.{FormatTable, LogicalExtents, PhysicalExtents, LevelCounts, Ranges, RangesWithLayers, LinearRules, BufferCopies, SameTexture, SameTextureParts, CompatibleFormats, AllAspects};

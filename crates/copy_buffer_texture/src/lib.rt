@@ -1,3 +1,4 @@
+#![tactic(auto)]
 // `copy_buffer_to_texture` and `copy_texture_to_buffer` of command/transfer.rs, and the validation of `Queue::write_texture` of
 // device/queue.rs in the order of the first, as plans.
 ghost use Rattle.std.specs.Prelude.{◌≡◌, true, ◌+◌, ◌^◌, ◌<◌};
@@ -22,7 +23,7 @@ use rule_init_ranges::{BufferInitRanges, OptionRange};
 use rule_linear_data::{LinearChecked, LinearData};
 use rule_selectors::{SelectorChecked, TextureCopyBase};
 
-#[derive(Drop)]
+#[derive(Clone, Copy)]
 pub enum BufferTexturePlanned {
     Plan(BufferTexturePlan),
     Refused(TransferError),
@@ -38,7 +39,7 @@ fn lacks_depth_fact(device: Device, format: u32) -> bool
 }
 
 // What an upload reads: a buffer, or a block of memory of a length.
-#[derive(Drop)]
+#[derive(Clone, Copy)]
 pub enum UploadSource {
     Buffer(Buffer),
     Memory(u64),

@@ -1,3 +1,4 @@
+#![tactic(auto)]
 // `copy_buffer_to_buffer` of command/transfer.rs, as a plan.
 ghost use Rattle.std.specs.Prelude.{◌≡◌, ◌-◌, ◌≤◌};
 ghost use Rattle.measures.specs.Measure.{multiple};
@@ -14,7 +15,7 @@ use refusals::{Checked, CopySide, DownlevelFlags, TransferError};
 // Offsets and size are multiples of this.
 const COPY_BUFFER_ALIGNMENT: u64 = 4;
 
-#[derive(Drop)]
+#[derive(Clone, Copy)]
 pub enum BufferPlanned {
     Plan(BufferPlan),
     Refused(TransferError),

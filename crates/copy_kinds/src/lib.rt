@@ -1,3 +1,4 @@
+#![tactic(auto)]
 // A copy of any of the five kinds, with the records that it names: its plan and ranges, or its refusal.
 ghost use Rattle.std.specs.Prelude.{◌≡◌, [], ◌≤◌};
 ghost use Rattle.copy_kinds.specs.Planned.{of_buffers, of_buffer_texture, of_memory, of_textures, planned_buffers, planned_upload, planned_memory_upload, planned_download, planned_textures};
@@ -16,7 +17,7 @@ use refusals::TransferError;
 use rule_init_ranges::{BufferInitRange, BufferInitRanges, OptionRange, TextureInitRange};
 
 // A range of the texture or the buffer of an index, or none.
-#[derive(Drop)]
+#[derive(Clone, Copy)]
 pub enum RangeSlot {
     Texture(u32, TextureInitRange),
     Buffer(u32, BufferInitRange),
@@ -24,7 +25,7 @@ pub enum RangeSlot {
 }
 
 // The ranges of a copy in their order, with slots between them that may be absent.
-#[derive(Drop)]
+#[derive(Clone, Copy)]
 pub struct Ranges {
     pub first: RangeSlot,
     pub second: RangeSlot,
@@ -32,7 +33,7 @@ pub struct Ranges {
     pub fourth: RangeSlot,
 }
 
-#[derive(Drop)]
+#[derive(Clone, Copy)]
 pub enum Planned {
     Plan(Plan, Ranges),
     Refused(TransferError),

@@ -1,3 +1,4 @@
+#![tactic(auto)]
 // `copy_texture_to_texture` of command/transfer.rs, as a plan.
 ghost use Rattle.std.specs.Prelude.{◌≡◌, true, false, ◌&&◌, not, ◌<◌, ◌^◌, eqb};
 ghost use Rattle.measures.specs.Measure.{divided_by};
@@ -22,7 +23,7 @@ use refusals::{Checked, CopySide, TextureErrorDimension, TransferError};
 use rule_copy_range::{CopyExtent, RangeChecked, Subject};
 use rule_selectors::{SelectorChecked, TextureCopyBase};
 
-#[derive(Drop)]
+#[derive(Clone, Copy)]
 pub enum TexturePlanned {
     Plan(TexturePlan),
     Refused(TransferError),

@@ -1,3 +1,4 @@
+#![tactic(auto)]
 // Words of flags, with their flags as constants of their type: what a buffer or a texture may be used for, and a
 // format's aspects.
 ghost use Rattle.std.specs.Prelude.{◌≡◌, [], ◌∷◌};
@@ -6,13 +7,13 @@ ghost use Rattle.flags.specs.TextureUsages as Texture;
 ghost use Rattle.flags.specs.FormatAspects as Aspect;
 ghost use Rattle.flags.specs.Flags.{contains, meet, is_one, meets};
 
-#[derive(Drop)]
+#[derive(Clone, Copy)]
 pub struct BufferUsages(pub u32);
 
-#[derive(Drop)]
+#[derive(Clone, Copy)]
 pub struct TextureUsages(pub u32);
 
-#[derive(Drop)]
+#[derive(Clone, Copy)]
 pub struct FormatAspects(pub u32);
 
 // Whether every one of the flags is set in the word.

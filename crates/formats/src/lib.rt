@@ -1,3 +1,4 @@
+#![tactic(auto)]
 // The texture formats by their numbers: blocks, bytes, aspects, planes and srgb pairs.
 ghost use Rattle.std.specs.Prelude.{◌≡◌, true, ◌≤◌, ◌<◌};
 ghost use Rattle.flags.specs.FormatAspects.{COLOR};
@@ -36,7 +37,7 @@ const PLANES: FormatAspects = FormatAspects(FormatAspects::PLANE_0.0 | FormatAsp
 pub const LAST_ASPECT: u32 = 5;
 
 // What a copy asks for of a texture.
-#[derive(Drop)]
+#[derive(Clone, Copy)]
 pub enum TextureAspect {
     All,
     StencilOnly,
@@ -47,7 +48,7 @@ pub enum TextureAspect {
 }
 
 // One format: its block's sides, whether it is an srgb, its aspects, and the bytes of a block of each.
-#[derive(Drop)]
+#[derive(Clone, Copy)]
 pub struct FormatRow {
     pub block_width: u32,
     pub block_height: u32,

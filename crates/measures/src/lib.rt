@@ -5,11 +5,11 @@ ghost use Rattle.measures.specs.Measure.{or_else, multiple, in_blocks, lesser_of
 ghost use Rattle.measures.specs.Laws.{EveryBlockSize};
 
 // Texels along one side.
-#[derive(Drop)]
+#[derive(Clone, Copy)]
 pub struct Texels(pub u32);
 
 // Texel blocks along one side: rows or columns. No function takes them for texels; `Texels::in_blocks` joins the two.
-#[derive(Drop)]
+#[derive(Clone, Copy)]
 pub struct Blocks(pub u32);
 
 impl Texels {
@@ -51,6 +51,7 @@ impl Texels {
     }
 
     // These divided by a factor, rounded down.
+    #[tactic(auto, unfolding(crate::specs::Measure::divided_by))]
     pub fn divided_by(self, factor: u32) -> Texels
         requires { 0 < factor }
         ensures { result ≡ divided_by self factor }
@@ -72,14 +73,14 @@ impl Texels {
 }
 
 // Sizes: width and height in texels; the third counts depth slices in 3D and array layers in 2D, which have no blocks.
-#[derive(Drop)]
+#[derive(Clone, Copy)]
 pub struct Extent3d {
     pub width: Texels,
     pub height: Texels,
     pub depth_or_array_layers: u32,
 }
 
-#[derive(Drop)]
+#[derive(Clone, Copy)]
 pub struct Origin3d {
     pub x: Texels,
     pub y: Texels,
@@ -87,33 +88,34 @@ pub struct Origin3d {
 }
 
 // The sides of a block.
-#[derive(Drop)]
+#[derive(Clone, Copy)]
 pub struct BlockDimensions {
     pub width: Texels,
     pub height: Texels,
 }
 
 // A number that a copy may leave out.
-#[derive(Drop)]
+#[derive(Clone, Copy)]
 pub enum OptionU32 {
     Given(u32),
     Absent,
 }
 
-#[derive(Drop)]
+#[derive(Clone, Copy)]
 pub enum OptionU64 {
     Given(u64),
     Absent,
 }
 
 // From start up to, not including, end. One whose end lies below its start runs backward and holds nothing.
-#[derive(Drop)]
+#[derive(Clone, Copy)]
 pub struct Range {
     pub start: u64,
     pub end: u64,
 }
 
 // A value, or another where it is absent.
+#[tactic(auto, unfolding(crate::specs::Measure::or_else))]
 pub fn or_else(value: OptionU32, other: u64) -> u64
     ensures { result ≡ or_else value other }
 {
@@ -138,6 +140,7 @@ pub fn physical_size(e: Extent3d, block: BlockDimensions) -> Extent3d
 }
 
 // Whether nothing is copied.
+#[tactic(auto, unfolding(crate::specs::Measure::is_empty))]
 pub fn is_empty(size: Extent3d) -> bool
     ensures { result ≡ is_empty size }
 {

@@ -1,3 +1,4 @@
+#![tactic(auto)]
 // The extent of a level, and how many levels a texture may have.
 ghost use Rattle.std.specs.Prelude.{◌≡◌, ◌&&◌, leb};
 ghost use Rattle.mip_levels.specs.Level.{texture_dimension, side_at, texels_at, mip_level_size, max_mip_levels};
@@ -5,7 +6,7 @@ ghost use Rattle.mip_levels.specs.Laws.{LevelLaws};
 
 use measures::{Extent3d, Texels};
 
-#[derive(Drop)]
+#[derive(Clone, Copy)]
 pub enum TextureDimension {
     D1,
     D2,

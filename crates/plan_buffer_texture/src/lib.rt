@@ -1,3 +1,4 @@
+#![tactic(auto)]
 // The plan of a copy between a buffer, or memory, and a texture, asked for its regions one by one.
 ghost use Rattle.std.specs.Prelude.{◌≡◌, ◌<◌};
 ghost use Rattle.conditions.specs.Conditions.{pick};
@@ -12,7 +13,7 @@ use rule_linear_data::LinearData;
 use rule_selectors::TextureCopyBase;
 
 // A region: what the encoder is handed.
-#[derive(Drop)]
+#[derive(Clone, Copy)]
 pub struct BufferTextureCopy {
     pub offset: u64,
     pub bytes_per_row: OptionU32,
@@ -22,7 +23,7 @@ pub struct BufferTextureCopy {
 }
 
 // The texture's range, then the buffer's; of a copy from memory all of these are absent.
-#[derive(Drop)]
+#[derive(Clone, Copy)]
 pub enum CopyRanges {
     Given(TextureInitRange, BufferInitRanges),
     Absent,
@@ -30,7 +31,7 @@ pub enum CopyRanges {
 
 // The ranges, the next region, the bytes from one to the next, how many are left, and the bytes checked. The ranges come first: in an
 // answer a refusal lies in the same place, and the compiler then takes the region apart at less cost.
-#[derive(Drop)]
+#[derive(Clone, Copy)]
 pub struct BufferTexturePlan {
     pub ranges: CopyRanges,
     pub region: BufferTextureCopy,
@@ -39,13 +40,13 @@ pub struct BufferTexturePlan {
     pub bytes_checked: u64,
 }
 
-#[derive(Drop)]
+#[derive(Clone, Copy)]
 pub enum NextBufferTextureCopy {
     Region(BufferTextureCopy),
     NoneLeft,
 }
 
-#[derive(Drop)]
+#[derive(Clone, Copy)]
 pub struct AskedBufferTexture {
     pub answer: NextBufferTextureCopy,
     pub plan: BufferTexturePlan,

@@ -1,3 +1,4 @@
+#![tactic(auto)]
 // The plan of a copy between buffers, asked for its region.
 ghost use Rattle.std.specs.Prelude.{◌≡◌, ◌+◌, ◌^◌, ◌<◌};
 ghost use Rattle.conditions.specs.Conditions.{pick};
@@ -8,7 +9,7 @@ ghost use Rattle.plan_buffers.specs.Asking.{advanced, next_of};
 use rule_init_ranges::{BufferInitRange, MemoryInitKind, OptionRange};
 
 // A region: what the encoder is handed.
-#[derive(Drop)]
+#[derive(Clone, Copy)]
 pub struct BufferCopy {
     pub src_offset: u64,
     pub dst_offset: u64,
@@ -17,7 +18,7 @@ pub struct BufferCopy {
 
 // The ranges in their order, the region, how many are left, and the bytes checked. The ranges come first: in an answer a refusal lies in
 // the same place, and the compiler then takes the region apart at less cost.
-#[derive(Drop)]
+#[derive(Clone, Copy)]
 pub struct BufferPlan {
     pub dst_range: OptionRange,
     pub src_range: OptionRange,
@@ -26,13 +27,13 @@ pub struct BufferPlan {
     pub bytes_checked: u64,
 }
 
-#[derive(Drop)]
+#[derive(Clone, Copy)]
 pub enum NextBufferCopy {
     Region(BufferCopy),
     NoneLeft,
 }
 
-#[derive(Drop)]
+#[derive(Clone, Copy)]
 pub struct AskedBuffer {
     pub answer: NextBufferCopy,
     pub plan: BufferPlan,

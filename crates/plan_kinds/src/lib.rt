@@ -1,3 +1,4 @@
+#![tactic(auto)]
 // A plan of any kind: its next region as a row of numbers.
 ghost use Rattle.std.specs.Prelude.{◌≡◌, []};
 ghost use Rattle.plan_rows.specs.Rows.{row_of};
@@ -8,7 +9,7 @@ use plan_buffers::{BufferPlan, NextBufferCopy};
 use plan_rows::Row;
 use plan_textures::{NextTextureCopy, TexturePlan};
 
-#[derive(Drop)]
+#[derive(Clone, Copy)]
 pub enum Plan {
     Buffers(BufferPlan),
     BufferTexture(BufferTexturePlan),
@@ -16,7 +17,7 @@ pub enum Plan {
 }
 
 // The next region as a row, of no numbers where none is left, and the plan after it.
-#[derive(Drop)]
+#[derive(Clone, Copy)]
 pub struct AskedRow {
     pub row: Row,
     pub plan: Plan,

@@ -1,3 +1,4 @@
+#![tactic(auto)]
 // Regions, ranges and refusals as rows of numbers, as the listing and the lent slice have them.
 ghost use Rattle.std.specs.Prelude.{◌≡◌};
 ghost use Rattle.plan_rows.specs.Rows.{or_absent, row_of, buffer_copy_numbers, buffer_texture_copy_numbers, texture_copy_numbers, texture_range_numbers, buffer_range_numbers, refusal_numbers};
@@ -13,7 +14,7 @@ use rule_init_ranges::{BufferInitRange, TextureInitRange};
 const ABSENT: u64 = 18446744073709551615;
 
 // So many numbers, and zeros after them.
-#[derive(Drop)]
+#[derive(Clone, Copy)]
 pub struct Row {
     pub count: usize,
     pub values: [u64; 15],

@@ -1,3 +1,4 @@
+#![tactic(auto)]
 // The plan of a copy between textures, asked for its regions one by one.
 ghost use Rattle.std.specs.Prelude.{◌≡◌, ◌*◌, ◌/◌, ◌<◌, ◌≤◌, ◌^◌, min, eqb};
 ghost use Rattle.conditions.specs.Conditions.{pick};
@@ -15,7 +16,7 @@ use rule_init_ranges::TextureInitRange;
 use rule_selectors::TextureCopyBase;
 
 // What a layer is copied as.
-#[derive(Drop)]
+#[derive(Clone, Copy)]
 pub enum CopyParts {
     Whole,
     DepthStencil,
@@ -23,14 +24,14 @@ pub enum CopyParts {
 }
 
 // The source's range, then the destination's.
-#[derive(Drop)]
+#[derive(Clone, Copy)]
 pub enum TextureRanges {
     Given(TextureInitRange, TextureInitRange),
     Absent,
 }
 
 // A region: what the encoder is handed.
-#[derive(Drop)]
+#[derive(Clone, Copy)]
 pub struct TextureCopy {
     pub src: TextureCopyBase,
     pub dst: TextureCopyBase,
@@ -39,7 +40,7 @@ pub struct TextureCopy {
 
 // The ranges, where the next region starts on both sides, its size, the next part of the layer, how many regions are left, and the parts
 // of a layer. The ranges come first as in a plan of a copy with a buffer.
-#[derive(Drop)]
+#[derive(Clone, Copy)]
 pub struct TexturePlan {
     pub ranges: TextureRanges,
     pub src: TextureCopyBase,
@@ -50,13 +51,13 @@ pub struct TexturePlan {
     pub parts: CopyParts,
 }
 
-#[derive(Drop)]
+#[derive(Clone, Copy)]
 pub enum NextTextureCopy {
     Region(TextureCopy),
     NoneLeft,
 }
 
-#[derive(Drop)]
+#[derive(Clone, Copy)]
 pub struct AskedTexture {
     pub answer: NextTextureCopy,
     pub plan: TexturePlan,

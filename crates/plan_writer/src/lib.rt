@@ -1,3 +1,4 @@
+#![tactic(auto)]
 // Writes the regions left of a plan into a lent slice.
 ghost use Rattle.std.specs.Prelude.{◌≡◌, ◌+◌, ◌*◌, ◌≤◌, length, take};
 ghost use Rattle.std.proofs.lemmas.List.Edits.{sets};
@@ -13,7 +14,7 @@ use plan_textures::{TexturePlan, TextureRanges};
 use refusals::{Checked, TransferError};
 
 // Whether the regions were written, and the plan after them; 38 and the plan as it is where the slice is too short.
-#[derive(Drop)]
+#[derive(Clone, Copy)]
 pub struct Written {
     pub answer: Checked,
     pub plan: Plan,

@@ -1,3 +1,4 @@
+#![tactic(auto)]
 // The records of a copy, their bounds, and the extents of a texture's level.
 ghost use Rattle.std.specs.Prelude.{◌≡◌, true, ◌&&◌, max};
 ghost use Rattle.mip_levels.specs.Level.{texture_dimension};
@@ -27,14 +28,14 @@ const MAX_SIDE_3D: u32 = 2048;
 // The layers of a 2D texture.
 const MAX_LAYERS: u32 = 256;
 
-#[derive(Drop)]
+#[derive(Clone, Copy)]
 pub struct Buffer {
     pub size: u64,
     pub usage: BufferUsages,
 }
 
 // `dimension` is 1, 2 or 3 and `format` a number of the table where the record is within its bounds.
-#[derive(Drop)]
+#[derive(Clone, Copy)]
 pub struct Texture {
     pub format: u32,
     pub dimension: u32,
@@ -45,7 +46,7 @@ pub struct Texture {
 }
 
 // One side of a copy: the part of a texture.
-#[derive(Drop)]
+#[derive(Clone, Copy)]
 pub struct TexelCopyTextureInfo {
     pub mip_level: u32,
     pub origin: Origin3d,
@@ -53,7 +54,7 @@ pub struct TexelCopyTextureInfo {
 }
 
 // The other side: how rows and images lie in a buffer, or in memory.
-#[derive(Drop)]
+#[derive(Clone, Copy)]
 pub struct TexelCopyBufferLayout {
     pub offset: u64,
     pub bytes_per_row: OptionU32,
@@ -61,14 +62,14 @@ pub struct TexelCopyBufferLayout {
 }
 
 // A texture and the part of it: either side of a copy between textures.
-#[derive(Drop)]
+#[derive(Clone, Copy)]
 pub struct TextureSide {
     pub texture: Texture,
     pub view: TexelCopyTextureInfo,
 }
 
 // What the device can do. Any two facts are within its bounds.
-#[derive(Drop)]
+#[derive(Clone, Copy)]
 pub struct Device {
     pub depth_texture_and_buffer_copies: bool,
     pub unrestricted_index_buffer: bool,

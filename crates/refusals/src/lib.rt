@@ -1,16 +1,17 @@
+#![tactic(auto)]
 // Why a copy is refused, and the six numbers that say so.
 ghost use Rattle.std.specs.Prelude.{◌≡◌};
 ghost use Rattle.refusals.specs.Numbers.{numbers_of, side_of, dimension_number, six};
 
 use formats::TextureAspect;
 
-#[derive(Drop)]
+#[derive(Clone, Copy)]
 pub enum CopySide {
     Source,
     Destination,
 }
 
-#[derive(Drop)]
+#[derive(Clone, Copy)]
 pub enum TextureErrorDimension {
     X,
     Y,
@@ -18,7 +19,7 @@ pub enum TextureErrorDimension {
 }
 
 // What a device may lack.
-#[derive(Drop)]
+#[derive(Clone, Copy)]
 pub enum DownlevelFlags {
     DepthTextureAndBufferCopies,
     UnrestrictedIndexBuffer,
@@ -28,7 +29,7 @@ pub enum DownlevelFlags {
 // InvalidSheetIndex, InvalidTextureRecord, InvalidBufferRecord, RegionSliceTooShort.
 // A missing usage has its side where the Rust names the resource. `end_offset` is wide enough for a sum of two of the
 // others.
-#[derive(Drop)]
+#[derive(Clone, Copy)]
 pub enum TransferError {
     InvalidSheetIndex,
     InvalidTextureRecord {
@@ -131,7 +132,7 @@ pub enum TransferError {
 }
 
 // A refusal as it is printed.
-#[derive(Drop)]
+#[derive(Clone, Copy)]
 pub struct Refusal {
     pub number: u32,
     pub side: u32,
@@ -142,7 +143,7 @@ pub struct Refusal {
 }
 
 // A rule's answer where it hands on no value.
-#[derive(Drop)]
+#[derive(Clone, Copy)]
 pub enum Checked {
     GoOn,
     Refused(TransferError),

@@ -1,3 +1,4 @@
+#![tactic(auto)]
 // The refusal of a rule's answer, for the copies that hand it up.
 ghost use Rattle.rule_answers.specs.Answers.{HandsUp};
 

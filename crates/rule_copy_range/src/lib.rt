@@ -1,3 +1,4 @@
+#![tactic(auto)]
 // The range of a copy within a texture: `validate_texture_copy_range` of command/transfer.rs.
 ghost use Rattle.std.specs.Prelude.{◌≡◌, ◌<◌, true};
 ghost use Rattle.formats.specs.Table.{block_dimensions};
@@ -14,7 +15,7 @@ use records::{TexelCopyTextureInfo, Texture};
 use refusals::{Checked, CopySide, TextureErrorDimension, TransferError};
 
 // What a refusal says of the texture.
-#[derive(Drop)]
+#[derive(Clone, Copy)]
 pub struct Subject {
     pub format: u32,
     pub sample_count: u32,
@@ -22,7 +23,7 @@ pub struct Subject {
 }
 
 // The size of one region.
-#[derive(Drop)]
+#[derive(Clone, Copy)]
 pub struct CopyExtent {
     pub width: Texels,
     pub height: Texels,
@@ -30,7 +31,7 @@ pub struct CopyExtent {
 }
 
 // The size of one region and the number of layers, or the refusal.
-#[derive(Drop)]
+#[derive(Clone, Copy)]
 pub enum RangeChecked {
     GoOn(CopyExtent, u32),
     Refused(TransferError),

@@ -1,3 +1,4 @@
+#![tactic(auto)]
 // `validate_texture_copy_src_format`, `validate_texture_copy_dst_format` and `validate_texture_buffer_copy` of
 // command/transfer.rs.
 ghost use Rattle.std.specs.Prelude.{◌≡◌, ◌&&◌, ◌||◌, not, eqb, ◌<◌};

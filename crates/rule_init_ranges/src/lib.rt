@@ -1,3 +1,4 @@
+#![tactic(auto)]
 // The initialisation ranges of a copy: `handle_buffer_init` and `handle_texture_init` of command/transfer.rs, and
 // `has_copy_partial_init_tracker_coverage` of init_tracker/texture.rs.
 ghost use Rattle.std.specs.Prelude.{◌≡◌, ◌||◌, not, ◌+◌, ◌^◌, ◌≤◌, ◌<◌, eqb};
@@ -10,13 +11,13 @@ use mip_levels::TextureDimension;
 use records::{TexelCopyTextureInfo, Texture};
 use refusals::CopySide;
 
-#[derive(Drop)]
+#[derive(Clone, Copy)]
 pub enum MemoryInitKind {
     ImplicitlyInitialized,
     NeedsInitializedMemory,
 }
 
-#[derive(Drop)]
+#[derive(Clone, Copy)]
 pub struct TextureInitRange {
     pub mip_level: u32,
     pub layers: Range,
@@ -24,21 +25,21 @@ pub struct TextureInitRange {
 }
 
 // Backward where end lies below start: such a range holds no byte.
-#[derive(Drop)]
+#[derive(Clone, Copy)]
 pub struct BufferInitRange {
     pub start: u64,
     pub end: u64,
     pub kind: MemoryInitKind,
 }
 
-#[derive(Drop)]
+#[derive(Clone, Copy)]
 pub enum OptionRange {
     Given(BufferInitRange),
     Absent,
 }
 
 // Up to three ranges, in this order.
-#[derive(Drop)]
+#[derive(Clone, Copy)]
 pub struct BufferInitRanges {
     pub head: OptionRange,
     pub whole: OptionRange,

@@ -1,3 +1,4 @@
+#![tactic(auto)]
 // The bytes that a copy takes in a buffer, or in memory: `validate_linear_texture_data` of command/transfer.rs.
 ghost use Rattle.std.specs.Prelude.{◌≡◌, ◌+◌, ◌*◌, ◌≤◌};
 ghost use Rattle.rule_linear_data.specs.Linear.{is_below, lacks, stacked as stackedOf, several_rows, several_images, is_contiguous_copy, data_of, row_stride_of, image_rows_of, block_bytes, dense_of, linear_checked};
@@ -11,14 +12,14 @@ use records::TexelCopyBufferLayout;
 use refusals::{CopySide, TransferError};
 
 // A product or a sum, where 64 bits hold it.
-#[derive(Drop)]
+#[derive(Clone, Copy)]
 pub enum CheckedU64 {
     Fits(u64),
     Over,
 }
 
 // What is copied, with nothing between rows: the bytes of a row, the rows of blocks, the images.
-#[derive(Drop)]
+#[derive(Clone, Copy)]
 pub struct Dense {
     pub row_bytes: u64,
     pub rows: Blocks,
@@ -26,7 +27,7 @@ pub struct Dense {
 }
 
 // How it lies in the buffer, or in memory.
-#[derive(Drop)]
+#[derive(Clone, Copy)]
 pub struct Span {
     pub row_stride: u64,
     pub image_stride: u64,
@@ -34,14 +35,14 @@ pub struct Span {
     pub total: u64,
 }
 
-#[derive(Drop)]
+#[derive(Clone, Copy)]
 pub struct LinearData {
     pub bytes_in_copy: u64,
     pub image_stride: u64,
     pub is_contiguous: bool,
 }
 
-#[derive(Drop)]
+#[derive(Clone, Copy)]
 pub enum LinearChecked {
     GoOn(LinearData),
     Refused(TransferError),

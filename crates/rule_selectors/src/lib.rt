@@ -1,3 +1,4 @@
+#![tactic(auto)]
 // `extract_texture_selector` and `validate_copy_within_same_texture` of command/transfer.rs.
 ghost use Rattle.std.specs.Prelude.{◌≡◌, ◌+◌, nat_lt};
 ghost use Rattle.refusals.specs.Order.{checked};
@@ -10,14 +11,14 @@ use records::{TexelCopyTextureInfo, Texture};
 use refusals::{Checked, TransferError};
 
 // The levels and layers that a copy selects.
-#[derive(Drop)]
+#[derive(Clone, Copy)]
 pub struct TextureSelector {
     pub mips: Range,
     pub layers: Range,
 }
 
 // Where a region starts in a texture.
-#[derive(Drop)]
+#[derive(Clone, Copy)]
 pub struct TextureCopyBase {
     pub mip_level: u32,
     pub array_layer: u32,
@@ -25,7 +26,7 @@ pub struct TextureCopyBase {
     pub aspect: FormatAspects,
 }
 
-#[derive(Drop)]
+#[derive(Clone, Copy)]
 pub enum SelectorChecked {
     GoOn(TextureSelector, TextureCopyBase),
     Refused(TransferError),

@@ -1,3 +1,4 @@
+#![tactic(auto)]
 // A copy line of a job sheet, with the records that it names: its plan or refusal.
 ghost use Rattle.std.specs.Prelude.{◌≡◌, ◌<◌, ◌+◌, get_or};
 ghost use Rattle.sheet_records.specs.Records.{word_of};

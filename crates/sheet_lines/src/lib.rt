@@ -1,3 +1,4 @@
+#![tactic(auto)]
 // The lines of a copy's answer, put into a slice at a place.
 ghost use Rattle.std.specs.Prelude.{◌+◌, ◌*◌, ◌≤◌, length, take, false, ◌≡◌};
 ghost use Rattle.plan_kinds.specs.Regions.{behind_of};
@@ -13,7 +14,7 @@ use refusals::TransferError;
 use rule_init_ranges::{BufferInitRange, TextureInitRange};
 
 // The place after a region's line, and the plan after the region.
-#[derive(Drop)]
+#[derive(Clone, Copy)]
 pub struct PutRegion {
     pub next: usize,
     pub plan: Plan,

@@ -1,3 +1,4 @@
+#![tactic(auto)]
 // The listing of a job sheet, made piece by piece into what the caller lends.
 ghost use Rattle.std.specs.Prelude.{◌≡◌, List, ℕ, ◌+◌, ◌-◌, ◌≤◌, min, length};
 ghost use Rattle.sheet_sections.specs.Sheet.{sheet_of};
@@ -17,7 +18,7 @@ const PIECE_BYTES: usize = 1024;
 
 // Where the listing is: the line of a sheet that is ill; or how many copies there are, how many are left and where the next
 // one's line begins, with what is left of the last one's regions.
-#[derive(Drop)]
+#[derive(Clone, Copy)]
 pub struct Lister {
     pub ill: bool,
     pub line: usize,
@@ -29,21 +30,21 @@ pub struct Lister {
 }
 
 // The place after a piece, and the state after it.
-#[derive(Drop)]
+#[derive(Clone, Copy)]
 pub struct Stepped {
     pub next: usize,
     pub lister: Lister,
 }
 
 // How many bytes of pieces were put, and where the listing is after them.
-#[derive(Drop)]
+#[derive(Clone, Copy)]
 pub struct PiecesPut {
     pub count: usize,
     pub lister: Lister,
 }
 
 // All that a listing goes on from: where the sheet's texture and buffer lines begin, how many there are, and where the listing is.
-#[derive(Drop)]
+#[derive(Clone, Copy)]
 pub struct Listing {
     pub textures: [usize; sheet_sections::MAX_RECORDS],
     pub texture_count: usize,
@@ -53,7 +54,7 @@ pub struct Listing {
 }
 
 // How many bytes were put, and the state after them.
-#[derive(Drop)]
+#[derive(Clone, Copy)]
 pub struct Filled {
     pub count: usize,
     pub listing: Listing,

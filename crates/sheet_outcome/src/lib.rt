@@ -1,3 +1,4 @@
+#![tactic(auto)]
 // What becomes of a job sheet as a whole: whether every copy is accepted.
 ghost use Rattle.std.specs.Prelude.{◌≡◌};
 ghost use Rattle.sheet_sections.specs.Sheet.{sheet_of};
@@ -8,7 +9,7 @@ use records::Device;
 use sheet_sections::{Parts, Sheet};
 
 // Every copy is accepted; a copy is refused; the sheet is ill.
-#[derive(Drop)]
+#[derive(Clone, Copy)]
 pub enum Outcome {
     Accepted,
     Refused,

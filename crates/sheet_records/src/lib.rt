@@ -1,3 +1,4 @@
+#![tactic(auto)]
 // Records and figures from the values of a job sheet's line.
 ghost use Rattle.std.specs.Prelude.{◌≡◌, ◌<◌, ◌+◌};
 ghost use Rattle.sheet_records.specs.Records.{value_of, word_of, word_or_absent, size_of, extent_of, origin_of, device_of, texture_of, buffer_of, view_of, layout_of};

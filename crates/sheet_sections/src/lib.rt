@@ -1,3 +1,4 @@
+#![tactic(auto)]
 // The job sheet: four sections of lines, each after its count. Nothing of it is copied: a record is found by the place of its
 // line, and read again where it is wanted.
 ghost use Rattle.std.specs.Prelude.{◌≡◌, ◌≤◌, length};
@@ -22,14 +23,14 @@ pub const COPIES: usize = 3;
 const SHEET_BYTES: usize = 65536;
 
 // How many lines a section has, where the first begins, and the place after the last.
-#[derive(Drop)]
+#[derive(Clone, Copy)]
 pub struct Part {
     pub count: usize,
     pub first: usize,
     pub next: usize,
 }
 
-#[derive(Drop)]
+#[derive(Clone, Copy)]
 pub struct Parts {
     pub devices: Part,
     pub textures: Part,
@@ -38,26 +39,26 @@ pub struct Parts {
 }
 
 // The place after lines, or that of the first ill one.
-#[derive(Drop)]
+#[derive(Clone, Copy)]
 pub enum Rows {
     Past(usize),
     Bad(usize),
 }
 
-#[derive(Drop)]
+#[derive(Clone, Copy)]
 pub enum Section {
     Good(Part),
     Bad(usize),
 }
 
-#[derive(Drop)]
+#[derive(Clone, Copy)]
 pub enum Found {
     Good(Parts),
     Bad(usize),
 }
 
 // A sheet's sections, or the number of its first ill line; 0 where it is too long.
-#[derive(Drop)]
+#[derive(Clone, Copy)]
 pub enum Sheet {
     Good(Parts),
     Ill(usize),

@@ -1,3 +1,4 @@
+#![tactic(auto)]
 // What it means that numbers were put into a lent slice.
 ghost use Rattle.slices.specs.Laws.{PutLaws};
 
