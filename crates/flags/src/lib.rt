@@ -17,6 +17,7 @@ pub struct TextureUsages(pub u32);
 pub struct FormatAspects(pub u32);
 
 // Whether every one of the flags is set in the word.
+#[tactic(auto, unfolding(crate::specs::Flags::contains))]
 fn has_all(word: u32, flags: u32) -> bool
     ensures { result ≡ contains word flags }
 {
@@ -110,6 +111,7 @@ impl FormatAspects {
     }
 
     // The aspects that are in both.
+    #[tactic(auto, unfolding(crate::specs::Flags::meet))]
     pub fn meet(self, other: FormatAspects) -> FormatAspects
         ensures { result.0 ≡ meet self.0 other.0 }
     {
@@ -117,6 +119,7 @@ impl FormatAspects {
     }
 
     // Whether some aspect is in both.
+    #[tactic(auto, unfolding(crate::specs::Flags::meets))]
     pub fn meets(self, other: FormatAspects) -> bool
         ensures { result ≡ meets self.0 other.0 }
     {
@@ -124,6 +127,7 @@ impl FormatAspects {
     }
 
     // Whether these are exactly one aspect.
+    #[tactic(auto, unfolding(crate::specs::Flags::is_one))]
     pub fn is_one(self) -> bool
         ensures { result ≡ is_one self.0 }
     {
