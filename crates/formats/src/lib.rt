@@ -141,6 +141,7 @@ fn format_row(format: u32) -> FormatRow
 }
 
 // Whether a number names a format.
+#[tactic(auto, unfolding(crate::specs::Table::formats, crate::specs::Table::is_format))]
 pub fn is_format(format: u32) -> bool
     ensures { result ≡ is_format format }
 {
@@ -159,6 +160,7 @@ pub fn block_dimensions(format: u32) -> BlockDimensions
 }
 
 // The aspects that a format has.
+#[tactic(auto, unfolding(crate::specs::Table::aspects_of))]
 pub fn format_aspects(format: u32) -> FormatAspects
     ensures { result.0 ≡ aspects_of format }
 {
@@ -180,6 +182,7 @@ pub fn aspect_of(n: u64) -> TextureAspect
     }
 }
 
+#[tactic(auto, unfolding(crate::specs::Aspects::asked_of))]
 fn met_with_asked(aspects: FormatAspects, asked: TextureAspect) -> FormatAspects
     ensures { result.0 ≡ asked_of aspects.0 asked }
 {
@@ -194,6 +197,7 @@ fn met_with_asked(aspects: FormatAspects, asked: TextureAspect) -> FormatAspects
 }
 
 // The aspects of a format that a copy chooses.
+#[tactic(auto, unfolding(crate::specs::Aspects::chosen_aspects))]
 pub fn chosen_aspects(format: u32, asked: TextureAspect) -> FormatAspects
     ensures { result.0 ≡ chosen_aspects format asked }
 {
@@ -281,12 +285,14 @@ pub fn block_copy_size(format: u32, asked: TextureAspect) -> u32
     bytes_of(format, chosen_aspects(format, asked))
 }
 
+#[tactic(auto, unfolding(crate::specs::Table::is_depth_stencil))]
 pub fn is_depth_stencil_format(format: u32) -> bool
     ensures { result ≡ is_depth_stencil format }
 {
     format >= 15 && format <= 20
 }
 
+#[tactic(auto, unfolding(crate::specs::Table::is_combined_depth_stencil))]
 pub fn is_combined_depth_stencil_format(format: u32) -> bool
     ensures { result ≡ is_combined_depth_stencil format }
 {
@@ -302,12 +308,14 @@ pub fn remove_srgb_suffix(format: u32) -> u32
     format - row.srgb
 }
 
+#[tactic(auto, unfolding(crate::specs::Table::is_multi_planar))]
 pub fn is_multi_planar_format(format: u32) -> bool
     ensures { result ≡ is_multi_planar format }
 {
     format == NV12
 }
 
+#[tactic(auto, unfolding(crate::specs::Aspects::plane_format))]
 fn plane_format(asked: TextureAspect) -> OptionU32
     ensures { result ≡ plane_format asked }
 {
@@ -332,6 +340,7 @@ pub fn aspect_specific_format(format: u32, asked: TextureAspect) -> OptionU32
 }
 
 // How many texels of the format one texel of the asked plane stands for, on X and on Y.
+#[tactic(auto, unfolding(crate::specs::Aspects::subsampling_factor))]
 pub fn subsampling_factor(asked: TextureAspect) -> u32
     ensures { result ≡ subsampling_factor asked }
 {

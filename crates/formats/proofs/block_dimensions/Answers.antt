@@ -1,5 +1,4 @@
--- `block_dimensions` meets its contract.
--- Assumes nothing.
+-- What the check does not find alone for `block_dimensions`.
 use mathlib.Core.Path.{◌≡◌, ap}
 use Prim.Native.Nat.{ℕ, ◌≤◌, ◌<◌}
 use borrow.Author.Rules.{rules}
@@ -7,8 +6,7 @@ use Rattle.measures.specs.declared.BlockDimensions.{BlockDimensions}
 use Rattle.formats.specs.Table.{block_of, block_dimensions}
 use Rattle.formats.specs.Laws.{max_block_side}
 use Rattle.formats.proofs.Rows.{every_format}
-use Rattle.formats.proofs.block_dimensions.Statement.{statement}
-use Rattle.formats.proofs.block_dimensions.Tie as tie
+use Rattle.formats.proofs.block_dimensions.Goals as goal
 
 Bounded : BlockDimensions → Type 0
 Bounded r = (0 < r.width.0) × (r.width.0 ≤ max_block_side) × (0 < r.height.0) × (r.height.0 ≤ max_block_side)
@@ -17,9 +15,6 @@ bounded : (r : BlockDimensions) (format : ℕ) → r ≡ block_dimensions format
 unfolding Bounded
 bounded r format e = let f = every_format format in rw e (f.width_some, f.width_few, f.height_some, f.height_few)
 
-returns : tie.Need-returns
+pub returns : goal.returns
 unfolding block_dimensions Bounded
-returns c = let e = ap block_of c.format-row.ensures in (e, bounded _ _ e)
-
-pub block_dimensions_spec : {M : Type 1} → statement M
-block_dimensions_spec = tie.close (tie.spec (λ c κs. search rules) returns)
+returns c = let e = ap block_of c.format_row-row.ensures in (e, bounded _ _ e)

@@ -1,5 +1,4 @@
--- `mip_level_size` meets its contract.
--- Assumes nothing.
+-- What the check does not find alone for `mip_level_size`.
 use mathlib.Core.Path.{◌≡◌}
 use Prim.Native.Nat.{ℕ}
 use borrow.Author.Rules.{rules}
@@ -9,26 +8,20 @@ use Rattle.measures.specs.Measure.{texels}
 use Rattle.mip_levels.specs.declared.TextureDimension.{TextureDimension}
 use Rattle.mip_levels.specs.declared.TextureDimension.TheVariants.{D1}
 use Rattle.mip_levels.specs.Level.{extent, texels_at, mip_level_size}
-use Rattle.mip_levels.proofs.mip_level_size.Statement.{statement}
-use Rattle.mip_levels.proofs.mip_level_size.Tie as tie
+use Rattle.mip_levels.proofs.mip_level_size.Goals as goal
 
 -- a level of a 1D texture has its width alone
 flat : (d : TextureDimension) (e : Extent3d) (level : ℕ) (w : Texels) → d ≡ D1 → w ≡ texels_at e.width level → extent w (texels 1) 1 ≡ mip_level_size d e level
 unfolding mip_level_size
 flat d e level w p q = rw (p, q)
 
-returns : tie.Need-returns
-returns c = flat _ _ _ _ (search rules) c.before.before.before.before.texels-at.ensures
+pub returns-in-D1 : goal.returns-in-D1
+returns-in-D1 c = flat _ _ _ _ (search rules) c.texels_at-width.ensures
 
-returns-2 : tie.Need-returns-2
+pub returns-in-D2 : goal.returns-in-D2
 unfolding mip_level_size
-returns-2 c = cc
+returns-in-D2 c = cc
 
-returns-3 : tie.Need-returns-3
+pub returns-in-D3 : goal.returns-in-D3
 unfolding mip_level_size
-returns-3 c = cc
-
-pub mip_level_size_spec : {M : Type 1} → statement M
-mip_level_size_spec =
-    tie.close
-    (tie.spec (λ c κs. search rules) (λ c κs. search rules) (λ c κs. search rules) (λ c. search rules) (λ c. search rules) (λ c. search rules) returns returns-2 returns-3)
+returns-in-D3 c = cc

@@ -1,8 +1,0 @@
--- `color_bytes` meets its contract.
--- Assumes nothing.
-use borrow.Author.Rules.{rules}
-use Rattle.formats.proofs.color_bytes.Statement.{statement}
-use Rattle.formats.proofs.color_bytes.Tie as tie
-
-pub color_bytes_spec : {M : Type 1} → statement M
-color_bytes_spec = tie.close (tie.spec (λ c κs. search rules) (λ c. cc))
