@@ -169,6 +169,7 @@ pub fn format_aspects(format: u32) -> FormatAspects
 }
 
 // The aspect of a number, 0 to 5; a larger one, which callers refuse, counts as 5.
+#[tactic(auto, unfolding(crate::specs::Aspects::aspect_of))]
 pub fn aspect_of(n: u64) -> TextureAspect
     ensures { result ≡ aspect_of n }
 {

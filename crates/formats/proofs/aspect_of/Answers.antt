@@ -12,25 +12,6 @@ use Rattle.formats.proofs.aspect_of.Goals as goal
 pub returns-in_default : goal.returns-in_default
 unfolding aspect_of
 returns-in_default c =
-    let past : 5 ≤ c.args.n = past_arms c.args.n 5 c.in_default.rest in
+    let past : 5 ≤ c.args.n = past_arms c.args.n 5 c.in_default.in_default-own.rest in
     sym (get_or-eq_default (All ∷ StencilOnly ∷ DepthOnly ∷ Plane0 ∷ Plane1 ∷ []) Plane2 past)
 
-pub returns-in-0 : goal.returns-in-0
-unfolding aspect_of
-returns-in-0 c = sym (ap aspect_of c.in_default.keys1)
-
-pub returns-in-1 : goal.returns-in-1
-unfolding aspect_of
-returns-in-1 c = sym (ap aspect_of c.in_default.keys2)
-
-pub returns-in-2 : goal.returns-in-2
-unfolding aspect_of
-returns-in-2 c = sym (ap aspect_of c.in_default.keys3)
-
-pub returns-in-3 : goal.returns-in-3
-unfolding aspect_of
-returns-in-3 c = sym (ap aspect_of c.in_default.keys4)
-
-pub returns-in-4 : goal.returns-in-4
-unfolding aspect_of
-returns-in-4 c = sym (ap aspect_of c.in_default.keys5)

@@ -17,4 +17,4 @@ bounded r format e = let f = every_format format in rw e (f.width_some, f.width_
 
 pub returns : goal.returns
 unfolding block_dimensions Bounded
-returns c = let e = ap block_of c.format_row-row.ensures in (e, bounded _ _ e)
+returns c = let e = ap block_of c.format_row-row.ensures in record { value = e; sides = bounded _ _ e }

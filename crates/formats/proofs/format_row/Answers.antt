@@ -12,7 +12,7 @@ use Rattle.formats.proofs.format_row.Goals as goal
 pub returns-in_default : goal.returns-in_default
 unfolding formats format_row
 returns-in_default c =
-    let past : 22 ≤ c.args.format = past_arms c.args.format 22 c.in_default.rest in
+    let past : 22 ≤ c.args.format = past_arms c.args.format 22 c.in_default.in_default-own.rest in
     c.planar-in_default.ensures ∙ sym (get_or-eq_default formats unknown past)
 
 pub returns-in-0 : goal.returns-in-0
