@@ -149,6 +149,7 @@ pub enum Checked {
     Refused(TransferError),
 }
 
+#[tactic(auto, unfolding(crate::specs::Numbers::side_of))]
 fn side_number(side: CopySide) -> u32
     ensures { result ≡ side_of side }
 {
@@ -158,6 +159,7 @@ fn side_number(side: CopySide) -> u32
     }
 }
 
+#[tactic(auto, unfolding(crate::specs::Numbers::dimension_number))]
 fn dimension_number(dimension: TextureErrorDimension) -> u32
     ensures { result ≡ dimension_number dimension }
 {
@@ -234,6 +236,7 @@ fn ranged(
 }
 
 // The number and the details of a refusal.
+#[tactic(auto, unfolding(crate::specs::Numbers::numbers_of))]
 pub fn numbers_of(e: TransferError) -> Refusal
     ensures { result ≡ numbers_of e }
 {
