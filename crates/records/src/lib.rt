@@ -81,12 +81,14 @@ fn larger(a: u32, b: u32) -> u32
     if a < b { b } else { a }
 }
 
+#[tactic(auto, unfolding(crate::specs::Bounds::within))]
 fn is_within(least: u32, n: u32, most: u32) -> bool
     ensures { result ≡ within least n most }
 {
     conditions::both(least <= n, n <= most)
 }
 
+#[tactic(auto, unfolding(crate::specs::Bounds::buffer_in_bounds))]
 fn buffer_in_bounds(b: Buffer) -> bool
     ensures { result ≡ buffer_in_bounds b }
 {
@@ -94,6 +96,7 @@ fn buffer_in_bounds(b: Buffer) -> bool
     conditions::both(b.size <= MAX_BUFFER_SIZE, usage.0 <= MAX_BUFFER_USAGE)
 }
 
+#[tactic(auto, unfolding(crate::specs::Bounds::size_in_bounds))]
 fn size_in_bounds(dimension: TextureDimension, e: Extent3d) -> bool
     ensures { result ≡ size_in_bounds dimension e }
 {
@@ -118,6 +121,7 @@ fn size_in_bounds(dimension: TextureDimension, e: Extent3d) -> bool
 }
 
 // The side that is halved from level to level.
+#[tactic(auto, unfolding(crate::specs::Bounds::mip_side))]
 fn mip_side(dimension: TextureDimension, e: Extent3d) -> u32
     ensures { result ≡ mip_side dimension e }
 {
@@ -129,6 +133,7 @@ fn mip_side(dimension: TextureDimension, e: Extent3d) -> u32
     }
 }
 
+#[tactic(auto, unfolding(crate::specs::Bounds::levels_in_bounds, crate::specs::Bounds::within))]
 fn levels_in_bounds(dimension: TextureDimension, e: Extent3d, levels: u32) -> bool
     ensures { result ≡ levels_in_bounds dimension e levels }
 {
@@ -170,6 +175,7 @@ fn fields_in_bounds(t: Texture) -> bool
     usage.0 <= MAX_TEXTURE_USAGE
 }
 
+#[tactic(auto, unfolding(crate::specs::Bounds::may_be_multisampled))]
 fn may_be_multisampled(format: u32) -> bool
     ensures { result ≡ may_be_multisampled format }
 {
@@ -199,12 +205,14 @@ fn samples_in_bounds(t: Texture) -> bool
     has_four_samples(t)
 }
 
+#[tactic(auto, unfolding(crate::specs::Bounds::dimension_suits))]
 fn dimension_suits(format: u32, dimension: u32) -> bool
     ensures { result ≡ dimension_suits format dimension }
 {
     conditions::either(format <= 10, dimension == 2)
 }
 
+#[tactic(auto, unfolding(crate::specs::Bounds::sides_whole))]
 fn sides_whole(format: u32, e: Extent3d) -> bool
     ensures { result ≡ sides_whole format e }
 {
@@ -320,6 +328,7 @@ pub fn check_textures(src: Texture, dst: Texture) -> Checked
 }
 
 // The logical extent of a level.
+#[tactic(auto, unfolding(crate::specs::Extents::logical_extent))]
 pub fn logical_extent(t: Texture, level: u32) -> Extent3d
     ensures { result ≡ logical_extent t level }
 {
