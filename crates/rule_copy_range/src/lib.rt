@@ -38,12 +38,14 @@ pub enum RangeChecked {
 }
 
 // Where a run ends, as a refusal has it.
+#[tactic(auto, unfolding(crate::specs::Range::end_of))]
 fn end_of(start: u32, size: u32) -> u64
     ensures { result ≡ end_of start size }
 {
     std::num::wrapping_add_u32(start, size) as u64
 }
 
+#[tactic(auto, unfolding(crate::specs::Range::is_partial))]
 fn is_partial(exact: bool, start: u32, size: u32, limit: u32) -> bool
     ensures { result ≡ is_partial exact start size limit }
 {
@@ -178,6 +180,7 @@ fn check_blocks(o: Origin3d, size: Extent3d, block: BlockDimensions) -> Checked
     Checked::GoOn
 }
 
+#[tactic(auto, unfolding(crate::specs::Range::requires_exact))]
 fn requires_exact(t: Texture) -> bool
     ensures { result ≡ requires_exact t }
 {
@@ -187,6 +190,7 @@ fn requires_exact(t: Texture) -> bool
     )
 }
 
+#[tactic(auto, unfolding(crate::specs::Range::subject_of))]
 fn subject_of(t: Texture, side: CopySide) -> Subject
     ensures { result ≡ subject_of t side }
 {
@@ -217,6 +221,7 @@ fn layers_of(dimension: TextureDimension, depth: u32) -> u32
     }
 }
 
+#[tactic(auto, unfolding(crate::specs::Range::copy_extent))]
 pub fn copy_extent(t: Texture, size: Extent3d) -> CopyExtent
     ensures { result ≡ copy_extent t size }
 {
@@ -230,6 +235,7 @@ pub fn copy_extent(t: Texture, size: Extent3d) -> CopyExtent
     }
 }
 
+#[tactic(auto, unfolding(crate::specs::Range::layer_count_of))]
 pub fn array_layer_count(t: Texture, size: Extent3d) -> u32
     ensures { result ≡ layer_count_of t size }
 {
@@ -322,6 +328,7 @@ fn sides_fit(exact: bool, o: Origin3d, size: Extent3d, extent: Extent3d) -> bool
 }
 
 // In one test, so that the whole is small enough for the compiler to inline on both sides of a copy.
+#[tactic(auto, unfolding(crate::specs::Inside::blocks_fit))]
 fn blocks_fit(o: Origin3d, size: Extent3d, block: BlockDimensions) -> bool
     requires { (0 < block.width.0) × (0 < block.height.0) }
     ensures { result ≡ blocks_fit o size block }
@@ -338,6 +345,7 @@ fn blocks_fit(o: Origin3d, size: Extent3d, block: BlockDimensions) -> bool
     )
 }
 
+#[tactic(auto, unfolding(crate::specs::Inside::extent_fits))]
 fn extent_fits(view: TexelCopyTextureInfo, t: Texture, size: Extent3d) -> bool
     requires { texture_in_bounds t ≡ true }
     ensures { result ≡ extent_fits view t size }
@@ -347,6 +355,7 @@ fn extent_fits(view: TexelCopyTextureInfo, t: Texture, size: Extent3d) -> bool
     sides_fit(requires_exact(t), origin, size, extent)
 }
 
+#[tactic(auto, unfolding(crate::specs::Inside::alignment_fits))]
 fn alignment_fits(view: TexelCopyTextureInfo, t: Texture, size: Extent3d) -> bool
     ensures { result ≡ alignment_fits view t size }
 {

@@ -17,6 +17,7 @@ use refusals::{Checked, TransferError};
 // Bytes per row are a multiple of this.
 const COPY_BYTES_PER_ROW_ALIGNMENT: u32 = 256;
 
+#[tactic(auto, unfolding(crate::specs::Rules::is_depth_only))]
 fn is_depth_only(aspect: TextureAspect) -> bool
     ensures { result ≡ is_depth_only aspect }
 {
@@ -113,6 +114,7 @@ fn offset_alignment(format: u32, aspect: TextureAspect) -> u64
     block
 }
 
+#[tactic(auto, unfolding(measures::specs::Measure::multiple))]
 fn is_unaligned_offset(offset: u64, alignment: u64, aligned: bool) -> bool
     requires { 0 < alignment }
     ensures { result ≡ (aligned && not (multiple offset alignment)) }
@@ -120,6 +122,7 @@ fn is_unaligned_offset(offset: u64, alignment: u64, aligned: bool) -> bool
     conditions::both(aligned, offset % alignment != 0)
 }
 
+#[tactic(auto, unfolding(crate::specs::Rules::is_unaligned_row, measures::specs::Measure::multiple))]
 fn is_unaligned_value(bytes_per_row: OptionU32) -> bool
     ensures { result ≡ is_unaligned_row bytes_per_row }
 {

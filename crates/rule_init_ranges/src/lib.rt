@@ -47,6 +47,7 @@ pub struct BufferInitRanges {
 }
 
 // A kind as it is printed.
+#[tactic(auto, unfolding(crate::specs::Init::kind_number))]
 pub fn kind_number(kind: MemoryInitKind) -> u32
     ensures { result ≡ kind_number kind }
 {
@@ -56,6 +57,7 @@ pub fn kind_number(kind: MemoryInitKind) -> u32
     }
 }
 
+#[tactic(auto, unfolding(crate::specs::Init::is_all))]
 fn is_all(aspect: TextureAspect) -> bool
     ensures { result ≡ is_all aspect }
 {
@@ -85,6 +87,7 @@ fn differ(a: Texels, b: Texels) -> bool
     a.0 != b.0
 }
 
+#[tactic(auto, unfolding(crate::specs::Init::size_differs))]
 fn size_differs(dimension: TextureDimension, size: Extent3d, level: Extent3d) -> bool
     ensures { result ≡ size_differs dimension size level }
 {
@@ -105,6 +108,7 @@ fn size_differs(dimension: TextureDimension, size: Extent3d, level: Extent3d) ->
     )
 }
 
+#[tactic(auto, unfolding(crate::specs::Init::is_partial_cover))]
 fn has_copy_partial_init_tracker_coverage(
     copy_size: Extent3d,
     view: TexelCopyTextureInfo,
@@ -130,6 +134,7 @@ fn init_layers(dimension: TextureDimension, z: u32, depth: u32) -> Range
     }
 }
 
+#[tactic(auto, unfolding(crate::specs::Init::texture_range))]
 fn texture_range(
     view: TexelCopyTextureInfo,
     t: Texture,
@@ -148,6 +153,7 @@ fn texture_range(
     }
 }
 
+#[tactic(auto, unfolding(crate::specs::Init::src_texture_range))]
 pub fn src_texture_range(
     view: TexelCopyTextureInfo,
     t: Texture,
@@ -167,6 +173,7 @@ fn dst_kind(partial: bool) -> MemoryInitKind
     MemoryInitKind::ImplicitlyInitialized
 }
 
+#[tactic(auto, unfolding(crate::specs::Init::dst_texture_range))]
 pub fn dst_texture_range(
     view: TexelCopyTextureInfo,
     t: Texture,
@@ -178,6 +185,7 @@ pub fn dst_texture_range(
     texture_range(view, t, copy_size, dst_kind(partial))
 }
 
+#[tactic(auto, unfolding(crate::specs::Init::aligned_down))]
 fn aligned_down(n: u64) -> u64
     ensures value { result ≡ aligned_down n }
     ensures low { result ≤ n }
@@ -185,6 +193,7 @@ fn aligned_down(n: u64) -> u64
     n / 4 * 4
 }
 
+#[tactic(auto, unfolding(crate::specs::Init::aligned_up))]
 fn aligned_up(n: u64) -> u64
     requires { n < 2 ^ 63 }
     ensures { result ≡ aligned_up n }
@@ -201,6 +210,7 @@ fn range_unless(holds: bool, start: u64, end: u64, kind: MemoryInitKind) -> Opti
     OptionRange::Given(BufferInitRange { start, end, kind })
 }
 
+#[tactic(auto, unfolding(crate::specs::Init::outward))]
 fn outward_ranges(start: u64, end: u64) -> BufferInitRanges
     requires { end < 2 ^ 63 }
     ensures { result ≡ outward start end }
@@ -218,6 +228,7 @@ fn outward_ranges(start: u64, end: u64) -> BufferInitRanges
     }
 }
 
+#[tactic(auto, unfolding(crate::specs::Init::inward))]
 fn inward_ranges(start: u64, end: u64) -> BufferInitRanges
     requires { (start < 2 ^ 63) × (end < 2 ^ 63) }
     ensures { result ≡ inward start end }
@@ -238,6 +249,7 @@ fn is_outward(direction: CopySide, is_contiguous: bool) -> bool
     conditions::either(!is_contiguous, is_source(direction))
 }
 
+#[tactic(auto, unfolding(crate::specs::Init::is_source))]
 fn is_source(direction: CopySide) -> bool
     ensures { result ≡ is_source direction }
 {

@@ -83,6 +83,7 @@ fn stacked(items: u64, stride: u64, last: u64) -> CheckedU64
     plus(bytes, last)
 }
 
+#[tactic(auto, unfolding(crate::specs::Linear::is_below))]
 fn is_below(value: OptionU32, least: u64) -> bool
     ensures { result ≡ is_below value least }
 {
@@ -92,6 +93,7 @@ fn is_below(value: OptionU32, least: u64) -> bool
     }
 }
 
+#[tactic(auto, unfolding(crate::specs::Linear::lacks))]
 fn is_lacking(value: OptionU32, needed: bool) -> bool
     ensures { result ≡ lacks value needed }
 {
@@ -101,18 +103,21 @@ fn is_lacking(value: OptionU32, needed: bool) -> bool
     }
 }
 
+#[tactic(auto, unfolding(crate::specs::Linear::several_rows))]
 fn several_rows(d: Dense) -> bool
     ensures { result ≡ several_rows d }
 {
     conditions::either(d.images > 1, d.rows.0 > 1)
 }
 
+#[tactic(auto, unfolding(crate::specs::Linear::several_images))]
 fn several_images(d: Dense) -> bool
     ensures { result ≡ several_images d }
 {
     d.images > 1
 }
 
+#[tactic(auto, unfolding(crate::specs::Linear::is_contiguous_copy))]
 fn contiguous(d: Dense, s: Span) -> bool
     ensures { result ≡ is_contiguous_copy d s }
 {
@@ -122,6 +127,7 @@ fn contiguous(d: Dense, s: Span) -> bool
     )
 }
 
+#[tactic(auto, unfolding(crate::specs::Linear::data_of))]
 fn linear_data(d: Dense, s: Span) -> LinearData
     ensures { result ≡ data_of d s }
 {

@@ -73,6 +73,7 @@ fn layer_range(dimension: TextureDimension, z: u32, depth: u32) -> Range
     }
 }
 
+#[tactic(auto, unfolding(crate::specs::Selector::selector_of))]
 fn selector_of(view: TexelCopyTextureInfo, t: Texture, size: Extent3d) -> TextureSelector
     ensures { result ≡ selector_of view t size }
 {
@@ -83,6 +84,7 @@ fn selector_of(view: TexelCopyTextureInfo, t: Texture, size: Extent3d) -> Textur
     TextureSelector { mips, layers }
 }
 
+#[tactic(auto, unfolding(crate::specs::Selector::base_of))]
 fn base_of(view: TexelCopyTextureInfo, t: Texture, aspect: FormatAspects) -> TextureCopyBase
     ensures { result ≡ base_of view t aspect.0 }
 {
@@ -104,6 +106,7 @@ fn base_of(view: TexelCopyTextureInfo, t: Texture, aspect: FormatAspects) -> Tex
 }
 
 // The same place one layer on.
+#[tactic(auto, unfolding(crate::specs::Selector::next_layer))]
 pub fn next_layer(b: TextureCopyBase) -> TextureCopyBase
     ensures { result ≡ next_layer b }
 {
@@ -142,6 +145,7 @@ fn is_below_end(z: u32, other: u32, layers: u32) -> bool
     (z as u64) < (other as u64) + (layers as u64)
 }
 
+#[tactic(auto, unfolding(crate::specs::Selector::overlaps))]
 fn is_overlap(
     src: TexelCopyTextureInfo,
     dst: TexelCopyTextureInfo,

@@ -1,8 +1,0 @@
--- `is_src_depth` meets its contract.
--- Assumes nothing.
-use borrow.Author.Rules.{rules}
-use Rattle.rule_formats.proofs.is_src_depth.Statement.{statement}
-use Rattle.rule_formats.proofs.is_src_depth.Tie as tie
-
-pub is_src_depth_spec : {M : Type 1} → statement M
-is_src_depth_spec = tie.close (tie.spec (λ c κs. search rules) (λ c κs. search rules) (λ c. cc))
