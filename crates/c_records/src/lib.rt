@@ -55,6 +55,7 @@ pub fn layout_from(
 }
 
 // Format, dimension, width, height, depth or layers, levels, samples, usage.
+#[tactic(auto, unfolding(crate::specs::CRecords::texture_from))]
 pub fn texture_from(t: &[u32; 8]) -> Texture
     ensures { result ≡ texture_from t.now }
 {
@@ -80,6 +81,7 @@ fn aspect_from(number: u32) -> TextureAspect
 }
 
 // Level, x, y, z, aspect.
+#[tactic(auto, unfolding(crate::specs::CRecords::view_from))]
 pub fn view_from(v: &[u32; 5]) -> TexelCopyTextureInfo
     ensures { result ≡ view_from v.now }
 {
@@ -97,6 +99,7 @@ pub fn view_from(v: &[u32; 5]) -> TexelCopyTextureInfo
 }
 
 // Width, height, depth or layers.
+#[tactic(auto, unfolding(crate::specs::CRecords::size_from))]
 pub fn size_from(s: &[u32; 3]) -> Extent3d
     ensures { result ≡ size_from s.now }
 {

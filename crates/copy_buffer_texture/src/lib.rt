@@ -29,6 +29,7 @@ pub enum BufferTexturePlanned {
     Refused(TransferError),
 }
 
+#[tactic(auto, unfolding(crate::specs::Plan::lacks_depth_fact))]
 fn lacks_depth_fact(device: Device, format: u32) -> bool
     ensures { result ≡ lacks_depth_fact device format }
 {

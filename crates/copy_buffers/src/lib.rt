@@ -21,6 +21,7 @@ pub enum BufferPlanned {
     Refused(TransferError),
 }
 
+#[tactic(auto, unfolding(crate::specs::Plan::size_or))]
 fn size_or(size: OptionU64, left: u64) -> u64
     ensures { result ≡ size_or size left }
 {
@@ -30,6 +31,7 @@ fn size_or(size: OptionU64, left: u64) -> u64
     }
 }
 
+#[tactic(auto, unfolding(crate::specs::Plan::is_shared))]
 fn is_shared(usage: BufferUsages) -> bool
     ensures { result ≡ is_shared usage.0 }
 {
@@ -45,6 +47,7 @@ fn is_shared(usage: BufferUsages) -> bool
     )
 }
 
+#[tactic(auto, unfolding(crate::specs::Plan::lacks_index_fact))]
 fn lacks_index_fact(device: Device, src: BufferUsages, dst: BufferUsages) -> bool
     ensures { result ≡ lacks_index_fact device src.0 dst.0 }
 {
@@ -60,6 +63,7 @@ fn lacks_index_fact(device: Device, src: BufferUsages, dst: BufferUsages) -> boo
     )
 }
 
+#[tactic(auto, unfolding(measures::specs::Measure::multiple))]
 fn is_aligned(n: u64) -> bool
     ensures { result ≡ multiple n 4 }
 {

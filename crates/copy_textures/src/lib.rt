@@ -29,6 +29,7 @@ pub enum TexturePlanned {
     Refused(TransferError),
 }
 
+#[tactic(auto, unfolding(crate::specs::Copy::is_this))]
 fn is_this(value: OptionU32, n: u32) -> bool
     ensures { result ≡ is_this value n }
 {
@@ -80,6 +81,7 @@ fn plane_side(n: Texels, aspect: TextureAspect) -> Texels
     n.divided_by(factor)
 }
 
+#[tactic(auto, unfolding(crate::specs::Copy::plane_width))]
 fn plane_width(src: TextureSide) -> Texels
     ensures { result ≡ plane_width src }
 {
@@ -91,6 +93,7 @@ fn plane_width(src: TextureSide) -> Texels
     plane_side(width, aspect)
 }
 
+#[tactic(auto, unfolding(crate::specs::Copy::plane_height))]
 fn plane_height(src: TextureSide) -> Texels
     ensures { result ≡ plane_height src }
 {
@@ -102,6 +105,7 @@ fn plane_height(src: TextureSide) -> Texels
     plane_side(height, aspect)
 }
 
+#[tactic(auto, unfolding(rule_copy_range::specs::Range::subject_of))]
 fn source_of(t: Texture) -> Subject
     ensures { result ≡ subject_of t CopySide.Source }
 {
@@ -145,6 +149,7 @@ fn check_plane_sides(src: TextureSide, size: Extent3d, width: Texels, height: Te
     Checked::GoOn
 }
 
+#[tactic(auto, unfolding(crate::specs::Plan::plane_checks, crate::specs::Stages::plane_sides))]
 fn check_plane_extent(src: TextureSide, size: Extent3d) -> Checked
     ensures { result ≡ checked (plane_checks src size) }
 {

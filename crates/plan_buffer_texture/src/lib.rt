@@ -52,6 +52,7 @@ pub struct AskedBufferTexture {
     pub plan: BufferTexturePlan,
 }
 
+#[tactic(auto, unfolding(crate::specs::Plan::first_region))]
 fn first_region(
     layout: TexelCopyBufferLayout,
     base: TextureCopyBase,
@@ -70,6 +71,7 @@ fn first_region(
     }
 }
 
+#[tactic(auto, unfolding(crate::specs::Plan::ranges_of))]
 fn ranges_of(empty: bool, texture: TextureInitRange, buffer: BufferInitRanges) -> CopyRanges
     ensures { result ≡ ranges_of empty texture buffer }
 {
@@ -115,6 +117,7 @@ pub fn plan_of(
 }
 
 impl BufferTextureCopy {
+    #[tactic(auto, unfolding(crate::specs::Asking::moved))]
     fn moved(self, stride: u64) -> BufferTextureCopy
         ensures { result ≡ moved self stride }
     {
@@ -134,6 +137,7 @@ impl BufferTextureCopy {
 }
 
 impl BufferTexturePlan {
+    #[tactic(auto, unfolding(crate::specs::Asking::advanced))]
     fn advance(self) -> BufferTexturePlan
         requires { 0 < self.left }
         ensures { result ≡ advanced self }

@@ -63,6 +63,7 @@ fn count_of(empty: bool) -> u32
 }
 
 // The plan of a copy that has passed its checks.
+#[tactic(auto, unfolding(crate::specs::Plan::plan_of))]
 pub fn plan_of(src_offset: u64, dst_offset: u64, size: u64) -> BufferPlan
     requires { (src_offset + size < 2 ^ 64) × (dst_offset + size < 2 ^ 64) }
     ensures { result ≡ plan_of src_offset dst_offset size }
@@ -95,6 +96,7 @@ pub fn plan_of(src_offset: u64, dst_offset: u64, size: u64) -> BufferPlan
 }
 
 impl BufferPlan {
+    #[tactic(auto, unfolding(crate::specs::Asking::advanced))]
     fn advance(self) -> BufferPlan
         requires { 0 < self.left }
         ensures { result ≡ advanced self }

@@ -23,6 +23,7 @@ pub struct AskedRow {
     pub plan: Plan,
 }
 
+#[tactic(auto, unfolding(plan_rows::specs::Rows::row_of))]
 fn no_row() -> Row
     ensures { result ≡ row_of [] }
 {
@@ -59,6 +60,7 @@ pub fn texture_row(answer: NextTextureCopy) -> Row
     }
 }
 
+#[tactic(auto, unfolding(crate::specs::Regions::next_of, crate::specs::Regions::region_numbers, crate::specs::Regions::behind_of))]
 fn next_buffers(p: BufferPlan) -> AskedRow
     ensures { result ≡ next_of (Plan.Buffers p) }
 {
@@ -72,6 +74,7 @@ fn next_buffers(p: BufferPlan) -> AskedRow
     }
 }
 
+#[tactic(auto, unfolding(crate::specs::Regions::next_of, crate::specs::Regions::region_numbers, crate::specs::Regions::behind_of))]
 fn next_buffer_texture(p: BufferTexturePlan) -> AskedRow
     ensures { result ≡ next_of (Plan.BufferTexture p) }
 {
@@ -85,6 +88,7 @@ fn next_buffer_texture(p: BufferTexturePlan) -> AskedRow
     }
 }
 
+#[tactic(auto, unfolding(crate::specs::Regions::next_of, crate::specs::Regions::region_numbers, crate::specs::Regions::behind_of))]
 fn next_textures(p: TexturePlan) -> AskedRow
     ensures { result ≡ next_of (Plan.Textures p) }
 {

@@ -21,6 +21,7 @@ pub struct Row {
 }
 
 // A value, or what stands for an absent one.
+#[tactic(auto, unfolding(crate::specs::Rows::or_absent))]
 pub fn or_absent(value: OptionU32) -> u64
     ensures { result ≡ or_absent value }
 {
@@ -30,6 +31,7 @@ pub fn or_absent(value: OptionU32) -> u64
     }
 }
 
+#[tactic(auto, unfolding(crate::specs::Rows::row_of, crate::specs::Rows::buffer_copy_numbers))]
 pub fn buffer_copy_row(r: BufferCopy) -> Row
     ensures { result ≡ row_of (buffer_copy_numbers r) }
 {
@@ -55,6 +57,7 @@ pub fn buffer_copy_row(r: BufferCopy) -> Row
     }
 }
 
+#[tactic(auto, unfolding(crate::specs::Rows::row_of, crate::specs::Rows::buffer_texture_copy_numbers))]
 pub fn buffer_texture_copy_row(r: BufferTextureCopy) -> Row
     ensures { result ≡ row_of (buffer_texture_copy_numbers r) }
 {
@@ -88,6 +91,7 @@ pub fn buffer_texture_copy_row(r: BufferTextureCopy) -> Row
     }
 }
 
+#[tactic(auto, unfolding(crate::specs::Rows::row_of, crate::specs::Rows::texture_copy_numbers))]
 pub fn texture_copy_row(r: TextureCopy) -> Row
     ensures { result ≡ row_of (texture_copy_numbers r) }
 {
@@ -120,6 +124,7 @@ pub fn texture_copy_row(r: TextureCopy) -> Row
     }
 }
 
+#[tactic(auto, unfolding(crate::specs::Rows::row_of, crate::specs::Rows::texture_range_numbers))]
 pub fn texture_range_row(texture: u32, r: TextureInitRange) -> Row
     ensures { result ≡ row_of (texture_range_numbers texture r) }
 {
@@ -148,6 +153,7 @@ pub fn texture_range_row(texture: u32, r: TextureInitRange) -> Row
     }
 }
 
+#[tactic(auto, unfolding(crate::specs::Rows::row_of, crate::specs::Rows::buffer_range_numbers))]
 pub fn buffer_range_row(buffer: u32, r: BufferInitRange) -> Row
     ensures { result ≡ row_of (buffer_range_numbers buffer r) }
 {
@@ -175,6 +181,7 @@ pub fn buffer_range_row(buffer: u32, r: BufferInitRange) -> Row
     }
 }
 
+#[tactic(auto, unfolding(crate::specs::Rows::row_of, crate::specs::Rows::refusal_numbers))]
 pub fn refusal_row(why: TransferError) -> Row
     ensures { result ≡ row_of (refusal_numbers why) }
 {

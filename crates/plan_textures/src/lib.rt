@@ -69,6 +69,7 @@ fn least(a: u32, b: u32) -> u32
     if a < b { a } else { b }
 }
 
+#[tactic(auto, unfolding(crate::specs::Plan::lesser))]
 fn lesser_of(a: CopyExtent, b: CopyExtent) -> CopyExtent
     ensures { result ≡ lesser a b }
 {
@@ -119,6 +120,7 @@ fn region_count(empty: bool, layers: u32, parts: CopyParts) -> u32
     layers * count
 }
 
+#[tactic(auto, unfolding(crate::specs::Plan::ranges_of))]
 fn ranges_of(empty: bool, src: TextureInitRange, dst: TextureInitRange) -> TextureRanges
     ensures { result ≡ ranges_of empty src dst }
 {
@@ -172,6 +174,7 @@ pub fn plan_of(
     }
 }
 
+#[tactic(auto, unfolding(crate::specs::Asking::base_as))]
 fn base_as(b: TextureCopyBase, aspects: u32, factor: u32) -> TextureCopyBase
     requires { 0 < factor }
     ensures { result ≡ base_as b aspects factor }
@@ -192,6 +195,7 @@ fn base_as(b: TextureCopyBase, aspects: u32, factor: u32) -> TextureCopyBase
     }
 }
 
+#[tactic(auto, unfolding(crate::specs::Asking::size_by))]
 fn size_by(e: CopyExtent, factor: u32) -> CopyExtent
     requires { 0 < factor }
     ensures { result ≡ size_by e factor }
@@ -206,6 +210,7 @@ fn size_by(e: CopyExtent, factor: u32) -> CopyExtent
 }
 
 impl TexturePlan {
+    #[tactic(auto, unfolding(crate::specs::Asking::region_as))]
     fn region_as(self, aspects: u32, factor: u32) -> TextureCopy
         requires { 0 < factor }
         ensures { result ≡ region_as self aspects factor }
@@ -264,6 +269,7 @@ impl TexturePlan {
         }
     }
 
+    #[tactic(auto, unfolding(crate::specs::Asking::other_part))]
     fn other_part(self) -> TexturePlan
         requires { 0 < self.left }
         ensures { result ≡ other_part self }
@@ -284,6 +290,7 @@ impl TexturePlan {
         }
     }
 
+    #[tactic(auto, unfolding(crate::specs::Asking::other_layer))]
     fn other_layer(self) -> TexturePlan
         requires { 0 < self.left }
         ensures { result ≡ other_layer self }
@@ -316,6 +323,7 @@ impl TexturePlan {
         self.other_layer()
     }
 
+    #[tactic(auto, unfolding(crate::specs::Asking::advanced))]
     fn advance(self, parts: CopyParts) -> TexturePlan
         requires { 0 < self.left }
         ensures { result ≡ advanced parts self }

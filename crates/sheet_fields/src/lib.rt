@@ -1,3 +1,4 @@
+#![tactic(auto)]
 // Fields of decimal text, and lines of fields. What a field may hold goes by its code, so that one reader reads every line.
 ghost use Rattle.std.specs.Prelude.{◌≡◌, true, false, ◌+◌, ◌≤◌, length, drop, replicate};
 ghost use Rattle.sheet_fields.specs.Codes.{rule, rule_of};
@@ -26,28 +27,28 @@ pub const COUNT: u8 = 7;
 pub const LINE_VALUES: usize = 16;
 
 // The least and the largest value of a field, and whether `-` may stand there.
-#[derive(Drop)]
+#[derive(Clone, Copy)]
 pub struct Rule {
     pub least: u64,
     pub most: u64,
     pub dash: bool,
 }
 
-#[derive(Drop)]
+#[derive(Clone, Copy)]
 pub enum Number {
     Is(u64),
     Ill,
 }
 
 // A value, whether it is absent, and the place after the field.
-#[derive(Drop)]
+#[derive(Clone, Copy)]
 pub enum Field {
     At(u64, bool, usize),
     Ill,
 }
 
 // A line's values, whether the last is absent, and the place after the line.
-#[derive(Drop)]
+#[derive(Clone, Copy)]
 pub struct Line {
     pub good: bool,
     pub next: usize,
@@ -84,6 +85,7 @@ fn wide(x: u8) -> u64
     x as u64
 }
 
+#[tactic(auto, unfolding(crate::specs::Field::is_gap))]
 fn is_gap(b: u8) -> bool
     ensures { result ≡ is_gap b }
 {
@@ -203,6 +205,7 @@ pub fn read_field(s: &[u8], at: usize, code: u8, sep: u8) -> Field
     read_token(&s[at..e], rule_of(code), e + 1)
 }
 
+#[tactic(auto, unfolding(crate::specs::Line::line_with))]
 fn ill_line() -> Line
     ensures { result ≡ line_with (replicate line_values 0) 0 ill }
 {
@@ -214,6 +217,7 @@ fn ill_line() -> Line
     }
 }
 
+#[tactic(auto, unfolding(crate::specs::Line::separator_of))]
 fn separator(left: usize) -> u8
     ensures { result ≡ separator_of left }
 {

@@ -1,3 +1,4 @@
+#![tactic(auto)]
 // Decimal numbers, words and lines as text. Each writer puts its text at a place of a slice and answers the place after it.
 ghost use Rattle.std.specs.Prelude.{◌≡◌, ◌+◌, ◌*◌, ◌≤◌, ◌<◌, length};
 ghost use Rattle.slices.specs.Put.{Put};

@@ -1,0 +1,26 @@
+-- What the check does not find alone for `place_download`.
+use borrow.Author.Rules.{rules}
+use Rattle.copy_buffer_texture.proofs.Rules.{planned, end_fits}
+use Rattle.refusals.specs.declared.CopySide.TheVariants.{Destination}
+use Rattle.copy_buffer_texture.specs.Stages.{download_placed}
+use Rattle.copy_buffer_texture.proofs.place_download.Goals as goal
+
+pub download_plan-requires : goal.download_plan-requires
+unfolding download_placed
+download_plan-requires c = let k = c in let v = k in let s = v in end_fits _ s.args.layout s.args.t.format s.args.view.aspect s.args.b Destination s.args.size _ s.requires v.validate_linear_texture_data-linear.ensures k.in-GoOn.is
+
+pub returns-in_default : goal.returns-in_default
+unfolding download_placed
+returns-in_default c = search planned depth 10
+
+pub returns-then-lacks_depth_fact : goal.returns-then-lacks_depth_fact
+unfolding download_placed
+returns-then-lacks_depth_fact c = search planned depth 10
+
+pub returns-then-not-contains : goal.returns-then-not-contains
+unfolding download_placed
+returns-then-not-contains c = search planned depth 10
+
+pub returns : goal.returns
+unfolding download_placed
+returns c = search planned depth 10

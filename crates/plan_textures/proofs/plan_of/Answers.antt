@@ -1,0 +1,10 @@
+-- What the check does not find alone for `plan_of`.
+use mathlib.Core.Path.{◌∙◌}
+use borrow.Author.Rules.{rules}
+use Rattle.plan_textures.proofs.Rules.{built, counts_alike}
+use Rattle.plan_textures.specs.Plan.{plan_of}
+use Rattle.plan_textures.proofs.plan_of.Goals as goal
+
+pub returns : goal.returns
+unfolding plan_of
+returns c = let n = c in let e = n in let l = e in let p = l in let a = p.args in built _ _ 0 l.lesser_of-lesser.ensures p.parts_of-parts.ensures (n.region_count-left.ensures ∙ counts_alike _ _ _ _ a.layers e.is_empty.ensures p.parts_of-parts.ensures) c.texture_ranges-ranges.ensures

@@ -1,0 +1,29 @@
+-- What the check does not find alone for `write_all`.
+use borrow.Author.Rules.{rules}
+use Rattle.plan_kinds.specs.Regions.{left_of, fields_of}
+use Rattle.plan_writer.proofs.Writes.{room_of, all_of}
+use Rattle.plan_writer.proofs.write_all.Goals as goal
+
+pub write_buffers-requires : goal.write_buffers-requires
+unfolding left_of fields_of
+write_buffers-requires c = room_of _ _ _ c.in-Buffers.is c.requires
+
+pub write_buffer_textures-requires : goal.write_buffer_textures-requires
+unfolding left_of fields_of
+write_buffer_textures-requires c = room_of _ _ _ c.in-BufferTexture.is c.requires
+
+pub write_textures-requires : goal.write_textures-requires
+unfolding left_of fields_of
+write_textures-requires c = room_of _ _ _ c.in-Textures.is c.requires
+
+pub returns-in-Buffers : goal.returns-in-Buffers
+unfolding left_of
+returns-in-Buffers c = let w = c in all_of _ _ _ _ _ w.in-Buffers.is w.write_buffers.ensures
+
+pub returns-in-BufferTexture : goal.returns-in-BufferTexture
+unfolding left_of
+returns-in-BufferTexture c = let w = c in all_of _ _ _ _ _ w.in-BufferTexture.is w.write_buffer_textures.ensures
+
+pub returns-in-Textures : goal.returns-in-Textures
+unfolding left_of
+returns-in-Textures c = let w = c in all_of _ _ _ _ _ w.in-Textures.is w.write_textures.ensures
