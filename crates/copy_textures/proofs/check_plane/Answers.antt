@@ -1,5 +1,4 @@
 -- What the check does not find alone for `check_plane`.
-use borrow.Author.Rules.{rules}
 use Rattle.copy_textures.specs.Stages.{within_plane}
 use Rattle.copy_textures.proofs.Rules.{under_test}
 use Rattle.copy_textures.proofs.check_plane.Goals as goal

@@ -1,5 +1,4 @@
 -- What the check does not find alone for `check_plane_sides`.
-use borrow.Author.Rules.{rules}
 use Rattle.refusals.specs.Order.{decided}
 use Rattle.refusals.proofs.Order.{ordered}
 use Rattle.copy_textures.specs.Stages.{plane_sides}

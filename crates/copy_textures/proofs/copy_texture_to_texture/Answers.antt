@@ -1,5 +1,4 @@
 -- What the check does not find alone for `copy_texture_to_texture`.
-use borrow.Author.Rules.{rules}
 use Rattle.copy_textures.proofs.Rules.{planned, records_passed}
 use Rattle.copy_textures.specs.Stages.{texture_copy_staged}
 use Rattle.copy_textures.proofs.Staged.{by_law}

@@ -1,5 +1,4 @@
 -- What the check does not find alone for `formats_differ`.
-use borrow.Author.Rules.{rules}
 use Rattle.copy_textures.specs.Copy.{formats_differ}
 use Rattle.copy_textures.proofs.Split.{no_difference}
 use Rattle.copy_textures.proofs.formats_differ.Goals as goal

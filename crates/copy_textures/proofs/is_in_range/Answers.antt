@@ -1,5 +1,4 @@
 -- What the check does not find alone for `is_in_range`.
-use borrow.Author.Rules.{rules}
 use Rattle.copy_textures.proofs.is_in_range.Goals as goal
 
 pub returns : goal.returns

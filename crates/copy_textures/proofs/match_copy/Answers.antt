@@ -1,5 +1,4 @@
 -- What the check does not find alone for `match_copy`.
-use borrow.Author.Rules.{rules}
 use Rattle.copy_textures.proofs.Rules.{planned}
 use Rattle.copy_textures.proofs.match_copy.Goals as goal
 

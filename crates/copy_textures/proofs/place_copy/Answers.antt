@@ -1,5 +1,4 @@
 -- What the check does not find alone for `place_copy`.
-use borrow.Author.Rules.{rules}
 use Rattle.copy_textures.proofs.Rules.{planned}
 use Rattle.copy_textures.proofs.place_copy.Goals as goal
 

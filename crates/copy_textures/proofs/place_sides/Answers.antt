@@ -1,6 +1,5 @@
 -- What the check does not find alone for `place_sides`.
 use mathlib.Core.Path.{◌∙◌}
-use borrow.Author.Rules.{rules}
 use Rattle.copy_textures.specs.Stages.{placed_copy}
 use Rattle.copy_textures.proofs.place_sides.Goals as goal
 

@@ -1,6 +1,5 @@
 -- What the check does not find alone for `plane_side`.
 use native.Mathlib.Omega.{arith}
-use borrow.Author.Rules.{rules}
 use Rattle.copy_textures.proofs.Rules.{factor_some}
 use Rattle.copy_textures.proofs.plane_side.Goals as goal
 

@@ -1,5 +1,4 @@
 -- What the check does not find alone for `range_refusal`.
-use borrow.Author.Rules.{rules}
 use Rattle.copy_textures.proofs.range_refusal.Goals as goal
 
 pub returns : goal.returns

@@ -1,5 +1,4 @@
 -- What the check does not find alone for `select_copy`.
-use borrow.Author.Rules.{rules}
 use Rattle.copy_textures.proofs.Rules.{planned}
 use Rattle.copy_textures.specs.Stages.{selected_copy}
 use Rattle.copy_textures.proofs.select_copy.Goals as goal

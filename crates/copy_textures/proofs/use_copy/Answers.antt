@@ -1,5 +1,4 @@
 -- What the check does not find alone for `use_copy`.
-use borrow.Author.Rules.{rules}
 use Rattle.copy_textures.proofs.Rules.{planned}
 use Rattle.copy_textures.specs.Stages.{usable}
 use Rattle.copy_textures.proofs.use_copy.Goals as goal

@@ -2,7 +2,6 @@
 use mathlib.Core.Path.{sym, ap}
 use native.Mathlib.Omega.{arith}
 use Rattle.plan_kinds.specs.Regions.{fields_of}
-use borrow.Author.Rules.{rules}
 use Rattle.plan_writer.proofs.fields_of.Goals as goal
 
 pub returns-in-Buffers : goal.returns-in-Buffers

@@ -1,7 +1,5 @@
 -- What the check does not find alone for `is_room`.
-use mathlib.Core.Path.{ap, ◌∙◌}
 use borrow.Author.Rules.{rules}
-use Rattle.conditions.proofs.Rules.{tests}
 use Rattle.plan_writer.specs.Writing.{fits}
 use Rattle.plan_writer.proofs.Writes.{product_fits, fits_by}
 use Rattle.plan_writer.proofs.is_room.Goals as goal

@@ -1,5 +1,4 @@
 -- What the check does not find alone for `write_all`.
-use borrow.Author.Rules.{rules}
 use Rattle.plan_kinds.specs.Regions.{left_of, fields_of}
 use Rattle.plan_writer.proofs.Writes.{room_of, all_of}
 use Rattle.plan_writer.proofs.write_all.Goals as goal
@@ -18,12 +17,15 @@ write_textures-requires c = room_of _ _ _ c.in-Textures.is c.requires
 
 pub returns-in-Buffers : goal.returns-in-Buffers
 unfolding left_of
-returns-in-Buffers c = let w = c in all_of _ _ _ _ _ w.in-Buffers.is w.write_buffers.ensures
+returns-in-Buffers c =
+    let w = c in let all = all_of _ _ _ _ _ w.in-Buffers.is w.write_buffers.ensures in record { value = all.0; out_after = all.1 }
 
 pub returns-in-BufferTexture : goal.returns-in-BufferTexture
 unfolding left_of
-returns-in-BufferTexture c = let w = c in all_of _ _ _ _ _ w.in-BufferTexture.is w.write_buffer_textures.ensures
+returns-in-BufferTexture c =
+    let w = c in let all = all_of _ _ _ _ _ w.in-BufferTexture.is w.write_buffer_textures.ensures in record { value = all.0; out_after = all.1 }
 
 pub returns-in-Textures : goal.returns-in-Textures
 unfolding left_of
-returns-in-Textures c = let w = c in all_of _ _ _ _ _ w.in-Textures.is w.write_textures.ensures
+returns-in-Textures c =
+    let w = c in let all = all_of _ _ _ _ _ w.in-Textures.is w.write_textures.ensures in record { value = all.0; out_after = all.1 }

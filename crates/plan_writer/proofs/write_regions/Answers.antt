@@ -1,16 +1,17 @@
 -- What the check does not find alone for `write_regions`.
-use borrow.Author.Rules.{rules}
 use Rattle.plan_writer.proofs.Writes.{too_short, long_enough, written}
+use Rattle.conditions.proofs.Rules.{not_yes, not_no}
 use Rattle.plan_writer.proofs.write_regions.Goals as goal
 
 pub write_all-behind-requires : goal.write_all-behind-requires
-write_all-behind-requires c = let e = c in long_enough _ _ _ e.is_room.ensures e.if-not-is_room.false
+write_all-behind-requires c = let e = c in long_enough _ _ _ e.is_room.ensures (not_no _ e.if-not-is_room.false)
 
 pub returns : goal.returns
 returns c =
     let w = c in
     let e = w in
-    written _ _ _ e.is_room.ensures _ _ e.if-not-is_room.false w.write_all-behind.ensures
+    let all = written _ _ _ e.is_room.ensures _ _ (not_no _ e.if-not-is_room.false) w.write_all-behind.ensures in
+    record { value = all.0; out_after = all.1 }
 
 pub returns-then-not-is_room : goal.returns-then-not-is_room
-returns-then-not-is_room c = too_short _ _ _ c.is_room.ensures c.if-not-is_room.true
+returns-then-not-is_room c = let all = too_short _ _ _ c.is_room.ensures (not_yes _ c.if-not-is_room.true) in record { value = all.0; out_after = all.1 }

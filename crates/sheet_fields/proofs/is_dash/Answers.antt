@@ -1,5 +1,4 @@
 -- What the check does not find alone for `is_dash`.
-use borrow.Author.Rules.{rules}
 use Rattle.sheet_fields.proofs.Scans.{dash_one, dash_none}
 use Rattle.sheet_fields.proofs.is_dash.Goals as goal
 

@@ -1,6 +1,5 @@
 -- What the check does not find alone for `is_plain`.
 use mathlib.Core.Path.{sym}
-use borrow.Author.Rules.{rules}
 use Rattle.sheet_fields.proofs.Scans.{plain_none, plain_one, plain_many}
 use Rattle.sheet_fields.proofs.is_plain.Goals as goal
 

@@ -2,11 +2,11 @@
 use Prim.Native.Nat.{◌-◌, ◌*◌, ◌≤◌}
 use native.Mathlib.Omega.{arith}
 use native.Mathlib.Nat.{div-lt_iff_lt-mul, le-div_iff_mul-le}
-use borrow.Author.Rules.{rules}
 use borrow.Author.Tests.{le-leb, lt-leb}
 use Rattle.sheet_fields.specs.Field.{push_of, is_digit}
 use Rattle.sheet_fields.proofs.Scans.{push_is, push_over}
 use Rattle.sheet_fields.proofs.push.Goals as goal
+use Rattle.sheet_fields.proofs.push.Lts as place
 
 pub returns-then-b-lt48 : goal.returns-then-b-lt48
 unfolding push_of is_digit
@@ -24,8 +24,8 @@ returns-then-v-high c =
     let more = (div-lt_iff_lt-mul {k = 10} (omega arith)).0 c.if-v-high.true in
     push_over _ _ _ _ c.wide-d.ensures (omega arith)
 
-room : (c : tie.Else4) → c.before.before.before.before.before.args.v * 10 ≤ c.before.before.before.before.before.args.high - (c.before.before.wide.result - 48)
-room c = (le-div_iff_mul-le {k = 10} (omega arith)).0 c.if4.false
+room : (c : place.Else-v-high) → c.args.v * 10 ≤ c.args.high - (c.wide-d.result - 48)
+room c = (le-div_iff_mul-le {k = 10} (omega arith)).0 c.if-v-high.false
 
 pub overflow_mul-result : goal.overflow_mul-result
 overflow_mul-result c = omega (arith, room c)

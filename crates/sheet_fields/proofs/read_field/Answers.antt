@@ -1,5 +1,4 @@
 -- What the check does not find alone for `read_field`.
-use borrow.Author.Rules.{rules}
 use native.Mathlib.Omega.{arith}
 use Rattle.sheet_fields.proofs.Scans.{field_past, field_other, field_token}
 use Rattle.sheet_fields.proofs.read_field.Goals as goal

@@ -1,5 +1,4 @@
 -- What the check does not find alone for `read_token`.
-use borrow.Author.Rules.{rules}
 use Rattle.conditions.specs.Conditions.{stop_if}
 use Rattle.sheet_fields.specs.Field.{token_of}
 use Rattle.sheet_fields.proofs.read_token.Goals as goal

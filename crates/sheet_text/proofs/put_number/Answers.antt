@@ -1,5 +1,4 @@
 -- What the check does not find alone for `put_number`.
-use borrow.Author.Rules.{rules}
 use Rattle.sheet_text.proofs.Puts.{dash_put, number_put}
 use Rattle.sheet_text.proofs.put_number.Goals as goal
 

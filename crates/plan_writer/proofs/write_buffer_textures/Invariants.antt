@@ -1,0 +1,10 @@
+-- What lasts from turn to turn in `write_buffer_textures`.
+use Rattle.plan_kinds.specs.declared.Plan.TheVariants.{BufferTexture}
+use Rattle.plan_writer.proofs.Writes.{Underway}
+use Rattle.plan_writer.proofs.write_buffer_textures.Given as goal
+
+abbrev pub invariant-loop-p : goal.invariant-loop-p
+invariant-loop-p l = Underway l.initial.out l.out (BufferTexture l.initial.p) (BufferTexture l.p) l.at
+
+abbrev pub decreases-loop-p : goal.decreases-loop-p
+decreases-loop-p l = l.p.left
