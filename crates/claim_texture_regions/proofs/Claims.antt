@@ -33,7 +33,7 @@ use Rattle.claim_texture_regions.specs.Claim.{Gives, EveryTextureCopy}
 use Rattle.claim_texture_regions.proofs.Accepted.{Accepted, accepted, base_for, plan_for}
 use Rattle.claim_texture_regions.proofs.Asks.{next_regions, gives, gives_only}
 use Rattle.claim_texture_regions.proofs.States.{parts_for, num, first, base_at, Behind, region_is, behind_next}
-use Rattle.claim_texture_regions.proofs.Same.{same_dimension, same_layers, same_depth, same_layer, same_z, same_bits, same_parts}
+use Rattle.claim_texture_regions.proofs.Same.{same_dimension, same_layers, same_depth, same_layer, same_z, same_bits_lem, same_parts}
 
 -- ---- how many parts, and how far the layers go
 
@@ -115,7 +115,7 @@ module _ (i j : ℕ) (c : Copy) (k : Accepted i j c) where
   unfolding base_of
   base s b =
       let l : first s ≡ first s + 0 = omega arith in
-      rw (same_dimension s, same_layer (dimension s) s.view.origin.z, same_z (dimension s) s.view.origin.z, same_bits s b, ← l)
+      rw (same_dimension s, same_layer (dimension s) s.view.origin.z, same_z (dimension s) s.view.origin.z, same_bits_lem s b, ← l)
 
   begins : Behind c v 0 (plan_for c)
   unfolding T.plan_for N.plan_of N.lesser M.lesser_of copy_extent

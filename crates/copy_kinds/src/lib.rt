@@ -48,6 +48,7 @@ fn buffer_slot(buffer: u32, range: OptionRange) -> RangeSlot
     }
 }
 
+#[tactic(auto, unfolding(crate::specs::Ranges::no_ranges))]
 fn no_ranges() -> Ranges
     ensures { result ≡ no_ranges }
 {
@@ -59,6 +60,7 @@ fn no_ranges() -> Ranges
     }
 }
 
+#[tactic(auto, unfolding(crate::specs::Ranges::buffer_ranges))]
 fn buffer_ranges(src: u32, dst: u32, plan: BufferPlan) -> Ranges
     ensures { result ≡ buffer_ranges src dst plan }
 {
@@ -74,6 +76,7 @@ fn buffer_ranges(src: u32, dst: u32, plan: BufferPlan) -> Ranges
     }
 }
 
+#[tactic(auto, unfolding(crate::specs::Ranges::texture_and_buffer))]
 fn texture_and_buffer(texture: u32, t: TextureInitRange, buffer: u32, b: BufferInitRanges) -> Ranges
     ensures { result ≡ texture_and_buffer texture t buffer b }
 {
@@ -114,6 +117,7 @@ fn memory_ranges(texture: u32, ranges: CopyRanges) -> Ranges
     }
 }
 
+#[tactic(auto, unfolding(crate::specs::Ranges::two_textures))]
 fn two_textures(src: u32, s: TextureInitRange, dst: u32, d: TextureInitRange) -> Ranges
     ensures { result ≡ two_textures src s dst d }
 {
@@ -307,6 +311,7 @@ fn slot_count(slot: RangeSlot) -> u32
 
 impl Ranges {
     // How many ranges there are.
+    #[tactic(auto, unfolding(crate::specs::Ranges::count_of))]
     pub fn count(self) -> u32
         ensures { result ≡ count_of self }
     {

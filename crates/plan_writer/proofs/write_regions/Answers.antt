@@ -10,7 +10,7 @@ pub returns : goal.returns
 returns c =
     let w = c in
     let e = w in
-    let all = written _ _ _ e.is_room.ensures _ _ (not_no _ e.if-not-is_room.false) w.write_all-behind.ensures in
+    let all = written _ _ _ e.is_room.ensures _ _ (not_no _ e.if-not-is_room.false) (w.write_all-behind.ensures.value, w.write_all-behind.ensures.out_after) in
     record { value = all.0; out_after = all.1 }
 
 pub returns-then-not-is_room : goal.returns-then-not-is_room

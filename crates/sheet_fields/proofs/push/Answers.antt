@@ -6,7 +6,6 @@ use borrow.Author.Tests.{le-leb, lt-leb}
 use Rattle.sheet_fields.specs.Field.{push_of, is_digit}
 use Rattle.sheet_fields.proofs.Scans.{push_is, push_over}
 use Rattle.sheet_fields.proofs.push.Goals as goal
-use Rattle.sheet_fields.proofs.push.Lts as place
 
 pub returns-then-b-lt48 : goal.returns-then-b-lt48
 unfolding push_of is_digit
@@ -24,14 +23,17 @@ returns-then-v-high c =
     let more = (div-lt_iff_lt-mul {k = 10} (omega arith)).0 c.if-v-high.true in
     push_over _ _ _ _ c.wide-d.ensures (omega arith)
 
-room : (c : place.Else-v-high) → c.args.v * 10 ≤ c.args.high - (c.wide-d.result - 48)
-room c = (le-div_iff_mul-le {k = 10} (omega arith)).0 c.if-v-high.false
-
 pub overflow_mul-result : goal.overflow_mul-result
-overflow_mul-result c = omega (arith, room c)
+overflow_mul-result c =
+    let room : c.args.v * 10 ≤ c.args.high - (c.wide-d.result - 48) = (le-div_iff_mul-le {k = 10} (omega arith)).0 c.if-v-high.false in
+    omega (arith, room)
 
 pub overflow_add-result : goal.overflow_add-result
-overflow_add-result c = omega (arith, room c)
+overflow_add-result c =
+    let room : c.args.v * 10 ≤ c.args.high - (c.wide-d.result - 48) = (le-div_iff_mul-le {k = 10} (omega arith)).0 c.if-v-high.false in
+    omega (arith, room)
 
 pub returns : goal.returns
-returns c = push_is _ _ _ _ c.wide-d.ensures c.if-b-lt48.false c.if-b-gt57.false (omega (arith, room c))
+returns c =
+    let room : c.args.v * 10 ≤ c.args.high - (c.wide-d.result - 48) = (le-div_iff_mul-le {k = 10} (omega arith)).0 c.if-v-high.false in
+    push_is _ _ _ _ c.wide-d.ensures c.if-b-lt48.false c.if-b-gt57.false (omega (arith, room))

@@ -3,7 +3,6 @@ use mathlib.Core.Path.{◌≡◌, sym, ap, ◌∙◌}
 use Prim.Native.Nat.{ℕ, ◌≤◌}
 use mathlib.Core.Bool.{false}
 use lib.ListN.{get_or-eq_default}
-use borrow.Author.Rules.{rules}
 use Rattle.conditions.proofs.Tables.{past_arms}
 use Rattle.sheet_fields.specs.declared.Rule.{Rule}
 use Rattle.sheet_fields.specs.Codes.{rule, rules, rule_of}
