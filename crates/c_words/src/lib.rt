@@ -13,6 +13,7 @@ use plan_textures::{CopyParts, TexturePlan, TextureRanges};
 use refusals::TransferError;
 use rule_init_ranges::{BufferInitRange, BufferInitRanges, OptionRange, TextureInitRange};
 
+#[tactic(auto, unfolding(crate::specs::Words::buffer_words))]
 pub fn buffer_words(p: BufferPlan) -> [u64; 6]
     ensures { result ≡ buffer_words p }
 {
@@ -27,6 +28,7 @@ pub fn buffer_words(p: BufferPlan) -> [u64; 6]
     ]
 }
 
+#[tactic(auto, unfolding(crate::specs::Words::buffer_texture_words, plan_rows::specs::Rows::buffer_texture_copy_numbers))]
 pub fn buffer_texture_words(p: BufferTexturePlan) -> [u64; 15]
     ensures { result ≡ buffer_texture_words p }
 {
@@ -101,6 +103,7 @@ fn words_with(p: TexturePlan, number: u64) -> [u64; 18]
     ]
 }
 
+#[tactic(auto, unfolding(crate::specs::Words::texture_words))]
 pub fn texture_words(p: TexturePlan) -> [u64; 18]
     ensures { result ≡ texture_words p }
 {
@@ -169,6 +172,7 @@ fn four_ranges(a: RangeWords, b: RangeWords, c: RangeWords, d: RangeWords) -> [u
     ]
 }
 
+#[tactic(auto, unfolding(crate::specs::Words::buffers_range_words))]
 fn buffer_ranges(p: BufferPlan) -> [u64; 6]
     ensures { result ≡ buffers_range_words p }
 {

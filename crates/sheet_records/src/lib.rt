@@ -8,6 +8,7 @@ use measures::{Extent3d, OptionU32, OptionU64, Origin3d, Texels};
 use records::{Buffer, Device, TexelCopyBufferLayout, TexelCopyTextureInfo, Texture};
 use sheet_fields::Line;
 
+#[tactic(auto, unfolding(crate::specs::Records::value_of))]
 pub fn value_of(l: Line, i: usize) -> u64
     requires { i < 16 }
     ensures { result ≡ value_of l i }
@@ -16,6 +17,7 @@ pub fn value_of(l: Line, i: usize) -> u64
 }
 
 // The fields read here hold 32 bits, so nothing is cut off.
+#[tactic(auto, unfolding(crate::specs::Records::word_of))]
 pub fn word_of(l: Line, i: usize) -> u32
     requires { i < 16 }
     ensures { result ≡ word_of l i }
@@ -43,6 +45,7 @@ pub fn size_of(l: Line) -> OptionU64
     OptionU64::Given(value_of(l, 5))
 }
 
+#[tactic(auto, unfolding(crate::specs::Records::extent_of))]
 pub fn extent_of(l: Line, i: usize) -> Extent3d
     requires { i + 2 < 16 }
     ensures { result ≡ extent_of l i }
@@ -54,6 +57,7 @@ pub fn extent_of(l: Line, i: usize) -> Extent3d
     }
 }
 
+#[tactic(auto, unfolding(crate::specs::Records::origin_of))]
 fn origin_of(l: Line, i: usize) -> Origin3d
     requires { i + 2 < 16 }
     ensures { result ≡ origin_of l i }
@@ -66,6 +70,7 @@ fn origin_of(l: Line, i: usize) -> Origin3d
 }
 
 // The device of a sheet's one device line.
+#[tactic(auto, unfolding(crate::specs::Records::device_of))]
 pub fn device_of(l: Line) -> Device
     ensures { result ≡ device_of l }
 {
@@ -77,6 +82,7 @@ pub fn device_of(l: Line) -> Device
     }
 }
 
+#[tactic(auto, unfolding(crate::specs::Records::texture_of))]
 pub fn texture_of(l: Line) -> Texture
     ensures { result ≡ texture_of l }
 {
@@ -91,6 +97,7 @@ pub fn texture_of(l: Line) -> Texture
     }
 }
 
+#[tactic(auto, unfolding(crate::specs::Records::buffer_of))]
 pub fn buffer_of(l: Line) -> Buffer
     ensures { result ≡ buffer_of l }
 {
@@ -100,6 +107,7 @@ pub fn buffer_of(l: Line) -> Buffer
     }
 }
 
+#[tactic(auto, unfolding(crate::specs::Records::view_of))]
 pub fn view_of(l: Line, i: usize) -> TexelCopyTextureInfo
     requires { i + 4 < 16 }
     ensures { result ≡ view_of l i }
@@ -113,6 +121,7 @@ pub fn view_of(l: Line, i: usize) -> TexelCopyTextureInfo
     }
 }
 
+#[tactic(auto, unfolding(crate::specs::Records::layout_of))]
 pub fn layout_of(l: Line) -> TexelCopyBufferLayout
     ensures { result ≡ layout_of l }
 {

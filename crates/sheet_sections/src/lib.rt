@@ -64,6 +64,7 @@ pub enum Sheet {
     Ill(usize),
 }
 
+#[tactic(auto, unfolding(crate::specs::Rows::kind_of))]
 fn kind_of(f: Field) -> u64
     ensures { result ≡ kind_of f }
 {
@@ -73,6 +74,7 @@ fn kind_of(f: Field) -> u64
     }
 }
 
+#[tactic(auto, unfolding(crate::specs::Rows::kind_at))]
 fn kind_at(s: &[u8], at: usize) -> u64
     ensures { result ≡ kind_at s.now at }
 {
@@ -203,12 +205,14 @@ fn read_rows(s: &[u8], section: usize, count: usize, first: usize) -> Rows
     Rows::Past(at)
 }
 
+#[tactic(auto, unfolding(crate::specs::Sheet::least_of))]
 fn least_of(section: usize) -> usize
     ensures { result ≡ least_of section }
 {
     if section == DEVICES { 1 } else { 0 }
 }
 
+#[tactic(auto, unfolding(crate::specs::Sheet::most_of))]
 fn most_of(section: usize) -> usize
     ensures { result ≡ most_of section }
 {
@@ -290,6 +294,7 @@ fn find_parts(s: &[u8]) -> Found
     })
 }
 
+#[tactic(auto, unfolding(crate::specs::Sheet::newline))]
 fn newline_of(b: u8) -> usize
     ensures value { result ≡ newline b }
     ensures upper_bound { result ≤ 1 }
