@@ -5,9 +5,11 @@
 # While a build runs, descriptor 8 carries what rt prints and descriptor 9 holds the lock.
 
 : "${root:?is to be set by the script that sources building.sh}"
+# What is built is copied here: what rt makes stands in out/ of each crate, which 'rt ci' sets aside.
 program=$root/target/bin/sheet_program
+linked=$root/crates/sheet_program/out/sheet_program
 build_log=$root/target/build.log
-# Beside target/, which prove_all removes: the lock, the pipe that rt prints into, and when the build began.
+# The lock, the pipe that rt prints into, and when the build began.
 build_room=$root/.build
 
 say() { printf '%s: %s\n' "${script:-${0##*/}}" "$*" >&2; }
@@ -31,7 +33,7 @@ crates_for() { # CRATE...
             list[++count] = n
         }
         { sub(/#.*/, ""); i = index($0, ":") }
-        i { n = substr($0, 1, i - 1); gsub(/[ \t]/, "", n); below[n] = substr($0, i + 1) }
+        i { split(substr($0, 1, i - 1), a); below[a[1]] = substr($0, i + 1) }
         END {
             m = split(ENVIRON["CHANGED"], a, " ")
             for (k = 1; k <= m; k++) again[a[k]] = 1
@@ -42,28 +44,37 @@ crates_for() { # CRATE...
         }' "$root/crates.txt"
 }
 
-# Whether a file is there and no source of it is newer. Folders count, since only they show that a file was removed; wrong programs
-# do not. A source that is missing makes find complain, which counts as newer.
-is_current() { # FILE SOURCE...
-    built=$1
-    shift
-    [ -f "$built" ] && [ -z "$(find "$@" -name must-fail -prune -o -newer "$built" -print 2>&1 | head -n 1)" ]
+# Whether a file is there, and none of these crates and of further files is newer. Folders count, since only they show that a file was removed;
+# wrong programs do not, nor what rt makes in out/, nor a crate's own folder, which is newer each time that out/ is made. A source that is missing
+# makes find complain, which counts as newer.
+is_current() { # FILE 'CRATE...' [SOURCE...]
+    built=$1 crates=$2
+    shift 2
+    for crate in $crates; do
+        for entry in "$root/crates/$crate"/*; do
+            case ${entry##*/} in out | must-fail) ;; *) set -- "$@" "$entry" ;; esac
+        done
+    done
+    [ -f "$built" ] && [ -z "$(find "$root/crates.txt" "$root/KIT" "$@" -newer "$built" -print 2>&1 | head -n 1)" ]
 }
 
-# The same of what is made of crates, and of further files.
+# The same of what is made of crates and of all that they stand on.
 is_current_with() { # FILE 'CRATE...' [SOURCE...]
-    built=$1 wanted=$2
-    shift 2
+    made=$1
     # shellcheck disable=SC2086
-    for crate in $(crates_for $wanted); do set -- "$@" "$root/crates/$crate"; done
-    is_current "$built" "$root/crates.txt" "$root/KIT" "$@"
+    wanted=$(crates_for $2)
+    shift 2
+    is_current "$made" "$wanted" "$@"
 }
+
+# What rt leaves of a crate that it has built as a library.
+stamp_of() { echo "$root/crates/$1/out/rlib/stamp"; }
 
 # Prints those of the crates needed that are to be proved: rt has left no stamp, a source is newer than it, or they stand on such a
 # crate. rt goes by contents, and may find that fewer have changed.
 unproved() { # CRATE...
-    changed=$(crates_for "$@" | while read -r crate; do
-        is_current "$root/target/stamp/$crate" "$root/crates/$crate" "$root/crates.txt" "$root/KIT" || echo "$crate"
+    changed=$(for one in $(crates_for "$@"); do
+        is_current "$(stamp_of "$one")" "$one" || echo "$one"
     done)
     crates_for "$@"
     unset changed
@@ -91,7 +102,7 @@ announce() { # WHAT FILE COUNT
 mark_current() { # FILE CRATE...
     touch -r "$build_room/began" "$1"
     shift
-    for crate in $(crates_for "$@"); do touch -r "$build_room/began" "$root/target/stamp/$crate"; done
+    for crate in $(crates_for "$@"); do touch -c -r "$build_room/began" "$(stamp_of "$crate")"; done
 }
 
 # ---- The kit
@@ -170,7 +181,7 @@ lock_by_folder() {
 unlock_builds() {
     [ -n "$locked" ] || return 0
     discard
-    rm -rf "$build_room/output" "$build_room/owner"
+    rm -rf "$build_room/output" "$build_room/listing" "$build_room/owner"
     exec 9>&-
     locked=''
     trap - HUP INT TERM
@@ -211,33 +222,54 @@ close_output() {
     rm -f "$build_room/output"
 }
 
-# Runs rt and returns its status. It has the lock too, so that none builds beside it where this script alone is killed. It has a session
-# of its own, by which it is ended: the checks that it starts do not heed Ctrl-C.
-run_rt() { # WORD...
+# Runs rt in a folder and returns its status. It has the lock too, so that none builds beside it where this script alone is killed. It has a
+# session of its own, by which it is ended: the checks that it starts do not heed Ctrl-C. What it reads and where its output goes can be given.
+run_rt() { # FOLDER WORD...
     session=setsid
     command -v setsid >/dev/null || session=''
+    within=$1
+    shift
     ran="rt $*"
-    (cd "$root" && exec $session rt "$@") </dev/null >&8 2>&1 8>&- &
+    [ "$within" = "$root" ] || echo "== $ran in ${within#"$root/"}" >&8
+    if [ -n "${listing:-}" ]; then
+        (cd "$within" && exec $session rt "$@") <"$given" >"$listing" 2>&8 8>&- &
+    else
+        (cd "$within" && exec $session rt "$@") </dev/null >&8 2>&1 8>&- &
+    fi
     wait $!
 }
 
-# Reads what rt prints, keeps it in the log, and says which of the crates given is being proved: the first that is not proved yet.
+# Proves a crate and what it stands on, several at a time.
+prove() { # CRATE
+    # shellcheck disable=SC2086
+    run_rt "$root/crates/$1" all check ${RT_JOBS:+--jobs "$RT_JOBS"}
+}
+
+# Reads what rt prints, keeps it in the log, and says which of the crates given is being proved: the first that is not proved yet. rt prints a
+# block for each crate when its check has ended, and an empty one where there was nothing to check.
 show_progress() { # CRATE...
-    total=$# count=0 left=" $* "
+    total=$# count=0 left=" $* " ended=''
     exec >"$build_log"
     show_step
     while IFS= read -r line; do
         printf '%s\n' "$line"
         case $line in
-        'rt: '*' proved ('*) ended=${line#rt: } ended=${ended%% *} ;;
-        'rt: target/staticlib/lib'*) ended=${line#rt: target/staticlib/lib} ended=${ended%%.a *} ;;
-        *) continue ;;
+        '== '*)
+            pass_step
+            ended=${line#== }
+            ;;
+        'logic=proved'*) pass_step ;;
+        'logic='* | *': error'* | 'rt: '*' stopped'*) ended='' ;;
         esac
-        case $left in *" $ended "*) ;; *) continue ;; esac
-        left="${left%%" $ended "*} ${left#*" $ended "}" count=$((count + 1))
-        show_step
     done
     if [ -t 2 ]; then printf '\r%70s\r' '' >&2; fi
+}
+
+# Goes on to the next step, where the crate that has ended is one of those that are shown.
+pass_step() {
+    case $left in *" ${ended:-none} "*) ;; *) return 0 ;; esac
+    left="${left%%" $ended "*} ${left#*" $ended "}" count=$((count + 1)) ended=''
+    show_step
 }
 
 # On a terminal one line that is written over, elsewhere a line for each step.
@@ -251,53 +283,50 @@ show_step() {
 # Says from the log which crate failed in the last run of rt, and the first error that was printed of it.
 explain_failure() {
     said=$(awk -v root="$root/" -v ran="$ran" '
-        crate == "" && /^rt: [A-Za-z0-9_]+ NOT PROVED/ {
-            crate = $2 " is not proved"
-            if (sub(/^rt: [A-Za-z0-9_]+ NOT PROVED: /, "")) error = $0
+        /^== rt / { crate = ""; failed = ""; first = ""; split("", error); next }
+        /^== summary$/ { next }
+        /^== / { crate = $2; next }
+        failed == "" && /^[A-Za-z0-9_]+: failed \(/ { failed = $1; sub(/:$/, "", failed) }
+        /^rt: (chose|note:|waiting for|rt |[A-Za-z0-9_]+: (begins with|another copy))/ { next }
+        /: error|^note: [^ ]*:[0-9]+:[0-9]+: |^fn [^ ]+: no|^rt: / {
+            sub(/^(note|rt): /, "")
+            if ($0 ~ /^(\.\/)?(src|specs|proofs)\//) { sub(/^\.\//, ""); $0 = (crate == "" ? "" : "crates/" crate "/") $0 }
+            if (first == "") first = $0
+            if (!(crate in error)) error[crate] = $0
         }
-        crate == "" && /^rt: [A-Za-z0-9_]+ proved, and its run FAILED/ { crate = $2 " is proved, but its run failed" }
-        crate != "" { exit }
-        /^rt: [A-Za-z0-9_]+ (proved|ran)/ { error = ""; next }
-        error == "" && /(: error|^note: .*:[0-9]+:[0-9]+: |^fn [^ ]+: no|^rt: )/ { error = $0; sub(/^(note|rt): /, "", error) }
         END {
-            if (crate == "") crate = ran " failed"
-            i = index(error, root)
-            if (i) error = substr(error, 1, i - 1) substr(error, i + length(root))
-            print crate (error == "" ? "" : ": " substr(error, 1, 300))
+            if (failed == "") said = ran " failed" (first == "" ? "" : ": " first)
+            else said = failed " is not proved" (failed in error ? ": " error[failed] : "")
+            while ((i = index(said, root)) > 0) said = substr(said, 1, i - 1) substr(said, i + length(root))
+            print substr(said, 1, 400)
         }' "$build_log")
     say "$said"
     say "all that rt printed is in $build_log"
 }
 
-# Has temporary files in memory, where there is room and programs may run: a check writes and removes thousands of small ones, which on a disk is
-# up to a quarter of its time.
-work_in_memory() {
-    [ -z "${TMPDIR:-}" ] && [ -w /dev/shm ] && [ "$(df -Pk /dev/shm | awk 'NR == 2 { print $4 }')" -gt 4000000 ] || return 0
-    trial=$(mktemp -d /dev/shm/trial.XXXXXX)
-    if cp "$(command -v env)" "$trial/env" && "$trial/env" true; then export TMPDIR=/dev/shm; fi 2>/dev/null
-    rm -rf "$trial"
+# Copies the crates to a folder outside the repository, without what rt keeps of them, which is large.
+copy_crates() { # FOLDER
+    tar -c -C "$root" --exclude='crates/*/out' crates crates.txt | tar -x -C "$1"
 }
 
-# Proves every crate from nothing and runs the programs, while nothing is built; what rt prints is kept in a file.
+# Runs the gate of rt over every crate, while nothing is built; what rt prints is kept in a file. The program that it has proved, built and run
+# is the one that users run.
 prove_all() { # FILE
     lock_builds || return 1
-    rm -rf "$root/target"
-    RT_JOBS=${RT_JOBS:-6}
-    export RT_JOBS
+    : >"$build_room/began"
     open_output tee "$1"
     ended=0
-    run_rt check || ended=$?
+    run_rt "$root" ci || ended=$?
     close_output
+    [ "$ended" -ne 0 ] || [ ! -x "$linked" ] || keep_program
     unlock_builds
     return "$ended"
 }
 
 # ---- The program
 
-program_is_current() {
-    # rt removes its stamp before it builds a program, and writes it again when the program has run as it should.
-    [ -x "$program" ] && [ -f "$root/target/stamp/sheet_program" ] && is_current_with "$program" sheet_program
-}
+# It is copied to its place only when it has run as it should.
+program_is_current() { [ -x "$program" ] && is_current_with "$program" sheet_program; }
 
 # Proves and builds the program where it is not current.
 make_program() {
@@ -311,26 +340,45 @@ make_program() {
 }
 
 build_program() {
-    stamp=$root/target/stamp/sheet_program
-    RT_JOBS=${RT_JOBS:-6}
-    export RT_JOBS
     : >"$build_room/began"
-    # A program without a stamp was not built to its end; and a program that is missing rt builds only where there is no stamp.
-    if [ ! -x "$program" ] || [ ! -f "$stamp" ]; then rm -f "$program" "$stamp"; fi
-    crates=$(unproved sheet_program)
-    # shellcheck disable=SC2086
-    set -- $crates
+    # shellcheck disable=SC2046
+    set -- $(unproved sheet_program)
     announce "the program" "$program" $#
     open_output show_progress "$@"
     ended=0
-    run_rt check sheet_program || ended=$?
+    prove_and_run || ended=$?
     close_output
     if [ "$ended" -ne 0 ]; then
-        explain_failure
+        if [ -n "$run_failed" ]; then say "$run_failed"; else explain_failure; fi
         return 1
     fi
-    mark_current "$program" sheet_program
+    keep_program
     say "the program is proved and built"
+}
+
+# Copies what rt has linked to its place, in one step.
+keep_program() {
+    mkdir -p "$root/target/bin"
+    cp "$linked" "$program.new"
+    mark_current "$program.new" sheet_program
+    mv -f "$program.new" "$program"
+}
+
+# rt links a program when it runs it, here on the sheet beside its source.
+prove_and_run() {
+    beside=$root/crates/sheet_program run_failed='' status=0
+    rm -f "$linked" "$linked.stamp"
+    prove sheet_program || return
+    given=$beside/stdin listing=$build_room/listing
+    run_rt "$beside" run || status=$?
+    listing=''
+    [ -x "$linked" ] || return 1
+    if [ "$status" -ne 0 ]; then
+        run_failed="sheet_program is proved, but its run failed: it ended with status $status"
+    elif ! cmp -s "$build_room/listing" "$beside/stdout"; then
+        run_failed="sheet_program is proved, but its run failed: it lists $beside/stdin otherwise than $beside/stdout"
+    fi
+    [ -z "$run_failed" ]
 }
 
 # Whether a folder has the sources of wgpu-core that reference/ is built from.

@@ -1,5 +1,5 @@
 #![tactic(auto)]
-// The regions of a plan, for callers in C and Rust, who keep the plan as words.
+// The regions of a plan, for callers in C and Rust, who keep the plan as words. c_regions_c exports the functions.
 ghost use Rattle.std.specs.Prelude.{◌≡◌, ◌+◌, ◌%◌, ◌^◌, length, drop, replicate};
 ghost use Rattle.flags.specs.FormatAspects.{PLANE_1};
 ghost use Rattle.plan_writer.specs.Writing.{slots_of};
@@ -156,8 +156,7 @@ fn part_on(plan: &mut [u64; 18])
 }
 
 // 1, the next region's numbers, and the plan after it; or 0, zeros, and the plan as it is, where no region is left.
-#[unsafe(no_mangle)]
-pub extern "C" fn copy_planner_next_buffer_copy(plan: &mut [u64; 6], region: &mut [u64; 3]) -> u32
+pub fn copy_planner_next_buffer_copy(plan: &mut [u64; 6], region: &mut [u64; 3]) -> u32
     ensures value { result ≡ next_number plan.old }
     ensures region_after { region.new ≡ if_left plan.old (buffer_region plan.old) (replicate 3 0) }
     ensures plan_after { plan.new ≡ if_left plan.old (buffer_behind plan.old) plan.old }
@@ -172,11 +171,7 @@ pub extern "C" fn copy_planner_next_buffer_copy(plan: &mut [u64; 6], region: &mu
     1
 }
 
-#[unsafe(no_mangle)]
-pub extern "C" fn copy_planner_next_buffer_texture_copy(
-    plan: &mut [u64; 15],
-    region: &mut [u64; 12],
-) -> u32
+pub fn copy_planner_next_buffer_texture_copy(plan: &mut [u64; 15], region: &mut [u64; 12]) -> u32
     ensures value { result ≡ next_number plan.old }
     ensures region_after { region.new ≡ if_left plan.old (buffer_texture_region plan.old) (replicate 12 0) }
     ensures plan_after { plan.new ≡ if_left plan.old (buffer_texture_behind plan.old) plan.old }
@@ -193,11 +188,7 @@ pub extern "C" fn copy_planner_next_buffer_texture_copy(
     1
 }
 
-#[unsafe(no_mangle)]
-pub extern "C" fn copy_planner_next_texture_copy(
-    plan: &mut [u64; 18],
-    region: &mut [u64; 15],
-) -> u32
+pub fn copy_planner_next_texture_copy(plan: &mut [u64; 18], region: &mut [u64; 15]) -> u32
     ensures value { result ≡ next_number plan.old }
     ensures region_after { region.new ≡ if_left plan.old (texture_region plan.old) (replicate 15 0) }
     ensures plan_after { plan.new ≡ if_left plan.old (texture_behind plan.old) plan.old }
@@ -219,8 +210,7 @@ pub fn step_laws()
 {}
 
 // 0, the regions left from the slice's start, and the plan after them; or 38, and nothing changed, where the slice is shorter than they are.
-#[unsafe(no_mangle)]
-pub extern "C" fn copy_planner_write_buffer_copies(plan: &mut [u64; 6], regions: &mut [u64]) -> u32
+pub fn copy_planner_write_buffer_copies(plan: &mut [u64; 6], regions: &mut [u64]) -> u32
     ensures value { result ≡ written_number (Plan.Buffers (buffers_from plan.old)) (length regions.old) }
     ensures regions_after { regions.new ≡ slots_of (Plan.Buffers (buffers_from plan.old)) regions.old }
     ensures plan_after { plan.new ≡ written_words plan.old (Plan.Buffers (buffers_from plan.old)) (length regions.old) }
@@ -235,11 +225,7 @@ pub extern "C" fn copy_planner_write_buffer_copies(plan: &mut [u64; 6], regions:
     0
 }
 
-#[unsafe(no_mangle)]
-pub extern "C" fn copy_planner_write_buffer_texture_copies(
-    plan: &mut [u64; 15],
-    regions: &mut [u64],
-) -> u32
+pub fn copy_planner_write_buffer_texture_copies(plan: &mut [u64; 15], regions: &mut [u64]) -> u32
     ensures value { result ≡ written_number (Plan.BufferTexture (buffer_texture_from plan.old)) (length regions.old) }
     ensures regions_after { regions.new ≡ slots_of (Plan.BufferTexture (buffer_texture_from plan.old)) regions.old }
     ensures plan_after { plan.new ≡ written_words plan.old (Plan.BufferTexture (buffer_texture_from plan.old)) (length regions.old) }
@@ -254,11 +240,7 @@ pub extern "C" fn copy_planner_write_buffer_texture_copies(
     0
 }
 
-#[unsafe(no_mangle)]
-pub extern "C" fn copy_planner_write_texture_copies(
-    plan: &mut [u64; 18],
-    regions: &mut [u64],
-) -> u32
+pub fn copy_planner_write_texture_copies(plan: &mut [u64; 18], regions: &mut [u64]) -> u32
     ensures value { result ≡ written_number (Plan.Textures (textures_from plan.old)) (length regions.old) }
     ensures regions_after { regions.new ≡ slots_of (Plan.Textures (textures_from plan.old)) regions.old }
     ensures plan_after { plan.new ≡ written_words plan.old (Plan.Textures (textures_from plan.old)) (length regions.old) }
