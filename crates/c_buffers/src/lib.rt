@@ -18,6 +18,7 @@ fn other_index(same: bool) -> u32
     1
 }
 
+#[tactic(auto, unfolding(crate::specs::Answer::answer))]
 fn plan_copy(
     unrestricted_index_buffer: bool,
     same_buffer: bool,

@@ -32,6 +32,7 @@ fn option_from(word: u64) -> OptionU32
     OptionU32::Given(low_bits(word))
 }
 
+#[tactic(auto, unfolding(crate::specs::PlanWords::parts_from))]
 fn parts_from(word: u64) -> CopyParts
     ensures { result ≡ parts_from word }
 {
@@ -44,6 +45,7 @@ fn parts_from(word: u64) -> CopyParts
     CopyParts::Planes
 }
 
+#[tactic(auto, unfolding(crate::specs::PlanWords::base_from))]
 fn base_from(level: u64, layer: u64, x: u64, y: u64, z: u64, aspect: u64) -> TextureCopyBase
     ensures { result ≡ base_from level layer x y z aspect }
 {
@@ -70,6 +72,7 @@ fn extent_from(width: u64, height: u64, depth: u64) -> CopyExtent
     }
 }
 
+#[tactic(auto, unfolding(crate::specs::PlanWords::buffers_from))]
 pub fn buffers_from(w: [u64; 6]) -> BufferPlan
     ensures { result ≡ buffers_from w }
 {

@@ -108,6 +108,7 @@ fn chroma_region(plan: &[u64; 18], region: &mut [u64; 15])
     region[14] = plan[17];
 }
 
+#[tactic(auto, unfolding(crate::specs::Regions::depth_or_stencil))]
 fn depth_or_stencil(part: u64) -> u64
     ensures { result ≡ depth_or_stencil part }
 {
@@ -136,6 +137,7 @@ fn texture_region(plan: &[u64; 18], region: &mut [u64; 15])
     chroma_region(plan, region);
 }
 
+#[tactic(auto, unfolding(crate::specs::Regions::part_follows))]
 fn part_follows(parts: u64, part: u64) -> bool
     ensures { result ≡ part_follows parts part }
 {

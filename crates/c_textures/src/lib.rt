@@ -11,6 +11,7 @@ use formats::TextureAspect;
 use records::TextureSide;
 use refusals::TransferError;
 
+#[tactic(auto, unfolding(crate::specs::Answer::side_from))]
 fn side_from(texture: &[u32; 8], view: &[u32; 5]) -> TextureSide
     ensures { result ≡ side_from texture.now view.now }
 {

@@ -28,6 +28,7 @@ fn place_at(places: &[usize], k: u32) -> usize
     0
 }
 
+#[tactic(auto, unfolding(crate::specs::CopyLines::texture_at))]
 fn texture_at(s: &[u8], places: &[usize], k: u32) -> Texture
     ensures { result ≡ texture_at s.now places.now k }
 {
@@ -35,6 +36,7 @@ fn texture_at(s: &[u8], places: &[usize], k: u32) -> Texture
     sheet_records::texture_of(sheet_sections::read_row(s, sheet_sections::TEXTURES, at))
 }
 
+#[tactic(auto, unfolding(crate::specs::CopyLines::buffer_at))]
 fn buffer_at(s: &[u8], places: &[usize], k: u32) -> Buffer
     ensures { result ≡ buffer_at s.now places.now k }
 {
@@ -43,6 +45,7 @@ fn buffer_at(s: &[u8], places: &[usize], k: u32) -> Buffer
 }
 
 // One side of a copy between textures: from field i on the texture, and the part of it.
+#[tactic(auto, unfolding(crate::specs::CopyLines::texture_side_at))]
 fn side_at(s: &[u8], textures: &[usize], l: Line, i: usize) -> TextureSide
     requires { i + 5 < 16 }
     ensures { result ≡ texture_side_at s.now textures.now l i }
@@ -188,6 +191,7 @@ pub fn plan_line(
 }
 
 // The device of a good sheet.
+#[tactic(auto, unfolding(crate::specs::Answers::device_at))]
 pub fn device_at(s: &[u8], p: Parts) -> Device
     ensures { result ≡ device_at s.now p }
 {

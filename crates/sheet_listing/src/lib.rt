@@ -61,6 +61,7 @@ pub struct Filled {
 }
 
 // A refused copy has no regions.
+#[tactic(auto, unfolding(crate::specs::Listing::no_plan))]
 fn no_plan() -> Plan
     ensures { result ≡ no_plan }
 {
@@ -167,6 +168,7 @@ fn copy_number(total: usize, left: usize) -> u64
 }
 
 impl Lister {
+    #[tactic(auto, unfolding(crate::specs::Listing::state_with))]
     fn state_with(self, left: usize, at: usize, plan: Plan) -> Lister
         ensures { result ≡ state_with self left at plan }
     {

@@ -1,0 +1,19 @@
+-- What the check does not find alone for `plan_known`.
+use mathlib.Core.Path.{◌≡◌, ◌∙◌}
+use Rattle.measures.specs.declared.Extent3d.{Extent3d}
+use Rattle.records.specs.declared.Device.{Device}
+use Rattle.records.specs.declared.Buffer.{Buffer}
+use Rattle.records.specs.declared.Texture.{Texture}
+use Rattle.records.specs.declared.TexelCopyBufferLayout.{TexelCopyBufferLayout}
+use Rattle.records.specs.declared.TexelCopyTextureInfo.{TexelCopyTextureInfo}
+use Rattle.copy_buffer_texture.specs.Plan.{texture_to_buffer}
+use Rattle.c_downloads.proofs.plan_known.Goals as goal
+
+-- the same copy, of records that are the same
+alike : (d : Device) (b b' : Buffer) (l l' : TexelCopyBufferLayout) (t t' : Texture) (v v' : TexelCopyTextureInfo) (s s' : Extent3d) → b ≡ b' → l ≡ l' → t ≡ t' → v ≡ v' → s ≡ s' → texture_to_buffer d t v b l s ≡ texture_to_buffer d t' v' b' l' s'
+alike d b b' l l' t t' v v' s s' eb el et ev es = cc
+
+pub returns : goal.returns
+returns c =
+    c.copy_texture_to_buffer.ensures
+    ∙ alike _ _ _ _ _ _ _ _ _ _ _ c.buffer_from-b.ensures c.layout_from-layout.ensures c.texture_from-t.ensures c.view_from-v.ensures c.size_from-s.ensures

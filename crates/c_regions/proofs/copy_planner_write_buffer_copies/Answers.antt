@@ -1,0 +1,15 @@
+-- What the check does not find alone for `copy_planner_write_buffer_copies`.
+use Rattle.std.proofs.Common.{ap, ◌∙◌}
+use Rattle.plan_kinds.specs.declared.Plan.TheVariants.{Buffers}
+use Rattle.plan_kinds.specs.Regions.{left_of, fields_of}
+use Rattle.c_regions.specs.Regions.{words_of}
+use Rattle.c_regions.proofs.Answers.{too_short, written}
+use Rattle.c_regions.proofs.copy_planner_write_buffer_copies.Goals as goal
+
+pub returns-then-p-regions : goal.returns-then-p-regions
+unfolding left_of fields_of words_of
+returns-then-p-regions c = too_short _ _ _ _ (ap Buffers c.buffers_from-p.ensures) c.if-p-regions.true
+
+pub returns : goal.returns
+unfolding left_of fields_of words_of
+returns c = let a = c in let e = a in written _ _ _ _ (ap Buffers e.buffers_from-p.ensures) _ _ e.if-p-regions.false a.write_buffers-behind.ensures.out_after (c.buffer_words.ensures ∙ ap words_of a.write_buffers-behind.ensures.result_value)
