@@ -19,7 +19,7 @@ use Rattle.claim_webgpu_rules.specs.Formats.{Aspect, Color, Depth, Stencil, Know
 use Rattle.claim_webgpu_rules.proofs.Rows.{below}
 use Rattle.claim_texture_regions.specs.Regions.{Copy, Part, part, bits, parts, dimension, depth, layers_of, is_empty, is_nv12, region_of, region_at, regions_from, regions_of}
 use Rattle.claim_texture_regions.proofs.Accepted as A
-use Rattle.claim_texture_regions.proofs.Same.{same_bits}
+use Rattle.claim_texture_regions.proofs.Same.{same_bits_lem}
 use Rattle.claim_webgpu_effects.specs.Blocks.{In, first, later}
 use Rattle.claim_webgpu_effects.proofs.Formats.{HasBit, nowhere, Alike, alike}
 
@@ -147,13 +147,13 @@ module _ (i j : ℕ) (c : Copy) (k : A.Accepted i j c) (src_known : Known c.src.
   formats_alike = alike _ _ src_known dst_known (k.formats no_split)
 
   src_bits : bits c.src ≡ word
-  src_bits = sym (same_bits c.src k.src_bounds) ∙ k.src_aspects no_split ∙ formats_alike.aspects
+  src_bits = sym (same_bits_lem c.src k.src_bounds) ∙ k.src_aspects no_split ∙ formats_alike.aspects
 
   pub dst_chosen : A.bits c.dst ≡ word
   dst_chosen = k.dst_aspects
 
   dst_bits : bits c.dst ≡ word
-  dst_bits = sym (same_bits c.dst k.dst_bounds) ∙ dst_chosen
+  dst_bits = sym (same_bits_lem c.dst k.dst_bounds) ∙ dst_chosen
 
   src_plain : is_nv12 c.src ≡ false
   src_plain = let known = below c.src.texture.format src_known in ne_eqb c.src.texture.format 21 (λ e. omega (arith, e))

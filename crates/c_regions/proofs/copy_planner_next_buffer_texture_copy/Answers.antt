@@ -8,7 +8,7 @@ returns c =
     let region = sum in
     let e = region in
     let n = e.regions_left-left.ensures in
-    let all = one_left _ _ _ _ _ n _ _ e.if-left-eq0.false region.buffer_texture_region.ensures (layer_behind _ _ _ _ n sum.wrapping_add_u64.ensures c.layer_on.ensures) in record { value = all.0; region_after = all.1.0; plan_after = all.1.1 }
+    let all = one_left _ _ _ _ _ n _ _ e.if-left-eq0.false region.buffer_texture_region.ensures (layer_behind _ _ _ _ n sum.wrapping_add_u64.ensures.value c.layer_on.ensures) in record { value = all.0; region_after = all.1.0; plan_after = all.1.1 }
 
 pub returns-then-left-eq0 : goal.returns-then-left-eq0
 returns-then-left-eq0 c = let t = c in
