@@ -15,7 +15,7 @@ use Rattle.measures.specs.declared.OptionU32.TheVariants.{Given, Absent}
 use Rattle.measures.specs.Measure.{or_else}
 use Rattle.formats.specs.declared.FormatRow.{FormatRow}
 use Rattle.formats.specs.declared.TextureAspect.{TextureAspect}
-use Rattle.formats.specs.Table.{formats, unknown, format_row, block_width_of, block_height_of, aspects_of, none, block_dimensions}
+use Rattle.formats.specs.Table.{formats, unknown, format_row, aspects_of, none, block_dimensions}
 use Rattle.formats.specs.Aspects.{asked_of, bytes_of, block_copy_size, chosen_aspects, unless_none}
 use Rattle.formats.specs.Laws.{EveryFormat, max_block_side, max_block_bytes}
 

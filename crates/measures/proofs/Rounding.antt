@@ -6,7 +6,7 @@ use native.Mathlib.Omega.{arith}
 use native.Mathlib.Nat.{add-mul, div-add-mod', div-lt_iff_lt-mul, div-mul-le_self, div-one, lt-div-mul-add, mod-lt, mul-mod_left, mul-one}
 use lib.Arith.{digits_div}
 use Rattle.measures.specs.Measure.{blocks_of, rounded_up}
-use Rattle.measures.specs.Laws.{BlockLaws, EveryBlockSize}
+use Rattle.measures.specs.Laws.{EveryBlockSize}
 
 -- blocks of one texel
 pub single_blocks : (n size : ℕ) → size ≡ 1 → n ≡ blocks_of n size

@@ -1,5 +1,5 @@
 -- The bounds of the buffer and texture records.
-use Rattle.std.specs.Prelude.{ℕ, max, Bool, true, not, ◌&&◌, ◌||◌, eqb, leb}
+use Rattle.std.specs.Prelude.{ℕ, max, Bool, not, ◌&&◌, ◌||◌, eqb, leb}
 use mathlib.Core.List.{[], ◌∷◌, flatten}
 use Rattle.conditions.specs.Conditions.{every}
 use Rattle.measures.specs.declared.Extent3d.{Extent3d}

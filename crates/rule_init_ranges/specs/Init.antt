@@ -1,5 +1,5 @@
 -- The initialisation ranges of a copy, as the Rust reports them to its trackers. The trackers themselves are outside.
-use Rattle.std.specs.Prelude.{ℕ, ◌+◌, ◌*◌, ◌/◌, Bool, true, false, ◌&&◌, ◌||◌, not, List, [], ◌∷◌, eqb}
+use Rattle.std.specs.Prelude.{ℕ, ◌+◌, ◌*◌, ◌/◌, Bool, true, false, ◌||◌, not, List, [], ◌∷◌, eqb}
 use Rattle.conditions.specs.Conditions.{pick, stop_if, ◌$◌}
 use Rattle.measures.specs.declared.Extent3d.{Extent3d}
 use Rattle.measures.specs.declared.Range.{Range}

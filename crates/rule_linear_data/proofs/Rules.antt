@@ -1,11 +1,10 @@
 -- How the checks of linear data go on after a sum was taken apart.
 -- Assumes nothing.
-use mathlib.Core.Path.{◌≡◌, sym, ap, ◌∙◌}
+use mathlib.Core.Path.{◌≡◌, ap}
 use mathlib.Core.Bool.{Bool, true, false}
-use Prim.Native.Nat.{ℕ, ◌^◌, ◌<◌}
+use Prim.Native.Nat.{ℕ, ◌^◌}
 use native.Mathlib.Omega.{arith}
 use lib.Dec.{ltb}
-use borrow.Author.Tests.{lt-ltb}
 use Rattle.conditions.specs.Conditions.{pick}
 use Rattle.conditions.proofs.Rules.{flag_lines}
 use Rattle.refusals.specs.declared.TransferError.TheVariants as E

@@ -18,6 +18,4 @@ loop-listed-smaller c = putting_less c.loop-listed.invariant c.list_part-listed.
 
 pub loop-listed-preserved : goal.loop-listed-preserved
 loop-listed-preserved c =
-    let l = c in
-    let start = l in
-    putting_on l.loop-listed.invariant c.list_part-listed.ensures (omega (arith, start.well_formed.1.0, l.loop-listed.invariant.same))
+    putting_on c.loop-listed.invariant c.list_part-listed.ensures (omega (arith, c.well_formed.1.0, c.loop-listed.invariant.same))

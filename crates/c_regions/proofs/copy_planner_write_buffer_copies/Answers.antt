@@ -12,5 +12,4 @@ returns-then-p-regions c = let all = too_short _ _ _ _ (ap Buffers c.buffers_fro
 
 pub returns : goal.returns
 unfolding left_of fields_of words_of
-returns c = let a = c in let e = a in
-    let all = written _ _ _ _ (ap Buffers e.buffers_from-p.ensures) _ _ e.if-p-regions.false a.write_buffers-behind.ensures.out_after (c.buffer_words.ensures ∙ ap words_of a.write_buffers-behind.ensures.result_value) in record { value = all.0; regions_after = all.1.0; plan_after = all.1.1 }
+returns c = let all = written _ _ _ _ (ap Buffers c.buffers_from-p.ensures) _ _ c.if-p-regions.false c.write_buffers-behind.ensures.out_after (c.buffer_words.ensures ∙ ap words_of c.write_buffers-behind.ensures.result_value) in record { value = all.0; regions_after = all.1.0; plan_after = all.1.1 }

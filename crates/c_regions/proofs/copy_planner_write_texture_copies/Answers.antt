@@ -12,5 +12,4 @@ returns-then-p-regions c = let all = too_short _ _ _ _ (ap Textures c.textures_f
 
 pub returns : goal.returns
 unfolding left_of fields_of words_of
-returns c = let a = c in let e = a in
-    let all = written _ _ _ _ (ap Textures e.textures_from-p.ensures) _ _ e.if-p-regions.false a.write_textures-behind.ensures.out_after (c.texture_words.ensures ∙ ap words_of a.write_textures-behind.ensures.result_value) in record { value = all.0; regions_after = all.1.0; plan_after = all.1.1 }
+returns c = let all = written _ _ _ _ (ap Textures c.textures_from-p.ensures) _ _ c.if-p-regions.false c.write_textures-behind.ensures.out_after (c.texture_words.ensures ∙ ap words_of c.write_textures-behind.ensures.result_value) in record { value = all.0; regions_after = all.1.0; plan_after = all.1.1 }

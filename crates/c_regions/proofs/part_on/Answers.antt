@@ -4,9 +4,7 @@ use Rattle.c_regions.proofs.part_on.Goals as goal
 
 pub returns : goal.returns
 returns c =
-    let first = c in
-    let e = first in
-    other_layer_lem _ _ _ _ e.part_follows.ensures e.if-part_follows.false first.layer_on.ensures c.layer_on-2.ensures
+    other_layer_lem _ _ _ _ c.part_follows.ensures c.if-part_follows.false c.layer_on.ensures c.layer_on-2.ensures
 
 pub returns-then-part_follows : goal.returns-then-part_follows
 returns-then-part_follows c = other_part_lem _ _ c.part_follows.ensures c.if-part_follows.true

@@ -4,21 +4,15 @@ use Rattle.c_regions.proofs.texture_region.Goals as goal
 
 pub returns-then-plan-eq1 : goal.returns-then-plan-eq1
 returns-then-plan-eq1 c =
-    let d = c in
-    let t = d in
-    depth_stencil _ _ _ c.full_region-then-plan-eq1.ensures d.depth_or_stencil-aspects.ensures t.if-plan-eq0.false t.if-plan-eq1.true
+    depth_stencil _ _ _ c.full_region-then-plan-eq1.ensures c.depth_or_stencil-aspects.ensures c.if-plan-eq0.false c.if-plan-eq1.true
 
 pub returns-then-plan-eq0-2 : goal.returns-then-plan-eq0-2
 returns-then-plan-eq0-2 c =
-    let t = c in
-    let o = t in
-    plane_0_lem _ _ c.full_region-then-plan-eq0-2.ensures o.if-plan-eq0.false o.if-plan-eq1.false t.if-plan-eq0-2.true
+    plane_0_lem _ _ c.full_region-then-plan-eq0-2.ensures c.if-plan-eq0.false c.if-plan-eq1.false c.if-plan-eq0-2.true
 
 pub returns : goal.returns
 returns c =
-    let t = c in
-    let o = t in
-    plane_1_lem _ _ c.chroma_region.ensures o.if-plan-eq0.false o.if-plan-eq1.false t.if-plan-eq0-2.false
+    plane_1_lem _ _ c.chroma_region.ensures c.if-plan-eq0.false c.if-plan-eq1.false c.if-plan-eq0-2.false
 
 pub returns-then-plan-eq0 : goal.returns-then-plan-eq0
 returns-then-plan-eq0 c = whole _ _ c.full_region.ensures c.if-plan-eq0.true

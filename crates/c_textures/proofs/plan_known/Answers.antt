@@ -3,4 +3,4 @@ use mathlib.Core.Path.{◌∙◌}
 use Rattle.c_textures.proofs.plan_known.Goals as goal
 
 pub returns : goal.returns
-returns c = let z = c in let i = z in let d = i in c.copy_texture_to_texture.ensures ∙ rw (z.size_from.ensures, i.dst_index.ensures, d.side_from-to.ensures, d.side_from-from.ensures)
+returns c = c.copy_texture_to_texture.ensures ∙ rw (c.size_from.ensures, c.dst_index.ensures, c.side_from-to.ensures, c.side_from-from.ensures)

@@ -9,7 +9,7 @@ use Rattle.copy_buffer_texture.proofs.copy_buffer_to_texture.Goals as goal
 
 pub record_upload-requires : goal.record_upload-requires
 unfolding upload_staged
-record_upload-requires c = let b = c in buffer_passed _ b.args.b Source b.check_buffer-buffer.ensures c.in-GoOn.is
+record_upload-requires c = buffer_passed _ c.args.b Source c.check_buffer-buffer.ensures c.in-GoOn.is
 
 pub returns-in_default : goal.returns-in_default
 unfolding upload_staged

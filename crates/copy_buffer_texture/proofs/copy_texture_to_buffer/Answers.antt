@@ -9,7 +9,7 @@ use Rattle.copy_buffer_texture.proofs.copy_texture_to_buffer.Goals as goal
 
 pub range_download-requires : goal.range_download-requires
 unfolding download_staged
-range_download-requires c = let b = c in let e = b in let t = e in let a = t.args in (buffer_passed _ a.b Destination b.check_buffer-buffer.ensures c.in-GoOn-buffer.is, texture_passed _ a.t Source t.check_texture-texture.ensures e.in-GoOn.is)
+range_download-requires c = let a = c.args in (buffer_passed _ a.b Destination c.check_buffer-buffer.ensures c.in-GoOn-buffer.is, texture_passed _ a.t Source c.check_texture-texture.ensures c.in-GoOn.is)
 
 pub returns-in_default : goal.returns-in_default
 unfolding download_staged

@@ -7,7 +7,7 @@ use Rattle.copy_buffer_texture.proofs.place_download.Goals as goal
 
 pub download_plan-requires : goal.download_plan-requires
 unfolding download_placed
-download_plan-requires c = let k = c in let v = k in let s = v in end_fits _ s.args.layout s.args.t.format s.args.view.aspect s.args.b Destination s.args.size _ s.requires v.validate_linear_texture_data-linear.ensures k.in-GoOn.is
+download_plan-requires c = end_fits _ c.args.layout c.args.t.format c.args.view.aspect c.args.b Destination c.args.size _ c.requires c.validate_linear_texture_data-linear.ensures c.in-GoOn.is
 
 pub returns-in_default : goal.returns-in_default
 unfolding download_placed

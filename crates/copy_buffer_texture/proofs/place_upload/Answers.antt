@@ -6,7 +6,7 @@ use Rattle.copy_buffer_texture.proofs.place_upload.Goals as goal
 
 pub upload_plan-requires : goal.upload_plan-requires
 unfolding upload_placed
-upload_plan-requires c = let k = c in let v = k in let s = v in source_end_fits _ s.args.layout s.args.t.format s.args.view.aspect s.args.source s.args.size _ s.requires v.check_source_data-linear.ensures k.in-GoOn.is
+upload_plan-requires c = source_end_fits _ c.args.layout c.args.t.format c.args.view.aspect c.args.source c.args.size _ c.requires c.check_source_data-linear.ensures c.in-GoOn.is
 
 pub returns-in_default : goal.returns-in_default
 unfolding upload_placed

@@ -8,7 +8,7 @@ use Rattle.copy_buffer_texture.proofs.record_upload.Goals as goal
 
 pub range_upload-requires : goal.range_upload-requires
 unfolding upload_recorded
-range_upload-requires c = let t = c in let s = t in (s.requires, texture_passed _ s.args.t Destination t.check_texture-texture.ensures c.in-GoOn.is)
+range_upload-requires c = (c.requires, texture_passed _ c.args.t Destination c.check_texture-texture.ensures c.in-GoOn.is)
 
 pub returns-in_default : goal.returns-in_default
 unfolding upload_recorded

@@ -5,7 +5,7 @@ use Rattle.copy_textures.proofs.Staged.{by_law}
 use Rattle.copy_textures.proofs.copy_texture_to_texture.Goals as goal
 
 pub match_split-requires : goal.match_split-requires
-match_split-requires c = let r = c in records_passed _ _ _ r.check_textures-checked.ensures c.in-GoOn.is
+match_split-requires c = records_passed _ _ _ c.check_textures-checked.ensures c.in-GoOn.is
 
 pub returns-in_default : goal.returns-in_default
 unfolding texture_copy_staged

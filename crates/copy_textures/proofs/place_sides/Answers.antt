@@ -9,4 +9,4 @@ place_copy-requires c = rw c.array_layer_count.ensures c.requires
 
 pub returns : goal.returns
 unfolding placed_copy
-returns c = let n = c in let d = n in c.place_copy.ensures ∙ rw (n.array_layer_count.ensures, d.copy_extent-2.ensures, d.copy_extent.ensures)
+returns c = c.place_copy.ensures ∙ rw (c.array_layer_count.ensures, c.copy_extent-2.ensures, c.copy_extent.ensures)

@@ -10,31 +10,25 @@ use Rattle.copy_textures.proofs.range_copy.Goals as goal
 pub returns-then-not-is_in_range : goal.returns-then-not-is_in_range
 unfolding ranged_copy
 returns-then-not-is_in_range c =
-    let t = c in
-    test_fails _ _ Source _ _ t.is_in_range.ensures _ _ _ (not_yes _ t.if-not-is_in_range.true) c.range_refusal.ensures refl
+    test_fails _ _ Source _ _ c.is_in_range.ensures _ _ _ (not_yes _ c.if-not-is_in_range.true) c.range_refusal.ensures refl
 
 -- the destination is refused
 pub returns-then-not-is_in_range-2 : goal.returns-then-not-is_in_range-2
 unfolding ranged_copy
 returns-then-not-is_in_range-2 c =
-    let t = c in
-    let e = t in
-    test_holds _ _ Source _ _ e.is_in_range.ensures _ _ (not_no _ e.if-not-is_in_range.false)
-    (test_fails _ _ Destination _ _ t.is_in_range-2.ensures _ _ _ (not_yes _ t.if-not-is_in_range-2.true) c.range_refusal-then-not-is_in_range-2.ensures refl)
+    test_holds _ _ Source _ _ c.is_in_range.ensures _ _ (not_no _ c.if-not-is_in_range.false)
+    (test_fails _ _ Destination _ _ c.is_in_range-2.ensures _ _ _ (not_yes _ c.if-not-is_in_range-2.true) c.range_refusal-then-not-is_in_range-2.ensures refl)
 
 -- an accepted range goes over few layers
 pub place_sides-requires : goal.place_sides-requires
 place_sides-requires c =
-    let e = c in
-    layers_few _ _ _ Source _ _ _ e.requires.0 refl (in_range_lem _ _ Source _ _ e.is_in_range.ensures (not_no _ e.if-not-is_in_range.false))
+    layers_few _ _ _ Source _ _ _ c.requires.0 refl (in_range_lem _ _ Source _ _ c.is_in_range.ensures (not_no _ c.if-not-is_in_range.false))
 
 pub returns : goal.returns
 unfolding ranged_copy placed_copy
 returns c =
-    let s = c in
-    let e = s in
-    test_holds _ _ Source _ _ e.is_in_range.ensures _ _ (not_no _ e.if-not-is_in_range.false)
-    (test_holds _ _ Destination _ _ s.is_in_range-2.ensures _ _ (not_no _ s.if-not-is_in_range-2.false) c.place_sides.ensures)
+    test_holds _ _ Source _ _ c.is_in_range.ensures _ _ (not_no _ c.if-not-is_in_range.false)
+    (test_holds _ _ Destination _ _ c.is_in_range-2.ensures _ _ (not_no _ c.if-not-is_in_range-2.false) c.place_sides.ensures)
 
 pub range_refusal-requires : goal.range_refusal-requires
 range_refusal-requires c = c.requires.0

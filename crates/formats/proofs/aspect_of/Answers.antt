@@ -1,5 +1,5 @@
 -- What the check does not find alone for `aspect_of`.
-use mathlib.Core.Path.{sym, ap}
+use mathlib.Core.Path.{sym}
 use mathlib.Core.List.{[], ◌∷◌}
 use Prim.Native.Nat.{◌≤◌}
 use lib.ListN.{get_or-eq_default}
@@ -14,4 +14,3 @@ unfolding aspect_of
 returns-in_default c =
     let past : 5 ≤ c.args.n = past_arms c.args.n 5 c.in_default.in_default-own.rest in
     sym (get_or-eq_default (All ∷ StencilOnly ∷ DepthOnly ∷ Plane0 ∷ Plane1 ∷ []) Plane2 past)
-

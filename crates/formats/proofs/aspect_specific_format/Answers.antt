@@ -1,5 +1,4 @@
 -- What the check does not find alone for `aspect_specific_format`.
-use borrow.Author.Rules.{rules}
 use Rattle.conditions.proofs.Rules.{flag_lines}
 use Rattle.formats.specs.Aspects.{aspect_specific_format}
 use Rattle.formats.proofs.aspect_specific_format.Goals as goal

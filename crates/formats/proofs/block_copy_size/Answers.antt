@@ -1,6 +1,5 @@
 -- What the check does not find alone for `block_copy_size`.
 use mathlib.Core.Path.{ap, ◌∙◌}
-use borrow.Author.Rules.{rules}
 use Rattle.formats.specs.Table.{format_row}
 use Rattle.formats.specs.Aspects.{bytes_of}
 use Rattle.formats.proofs.Rows.{chosen_size, color_size}
@@ -8,8 +7,7 @@ use Rattle.formats.proofs.block_copy_size.Goals as goal
 
 pub returns-then-is_color : goal.returns-then-is_color
 returns-then-is_color c =
-    let i = c in
-    c.color_bytes.ensures ∙ color_size _ _ _ i.format_aspects.ensures (i.is_color.ensures c.if-is_color.true)
+    c.color_bytes.ensures ∙ color_size _ _ _ c.format_aspects.ensures (c.is_color.ensures c.if-is_color.true)
 
 pub returns : goal.returns
 returns c = c.bytes_of.ensures ∙ ap (bytes_of (format_row _)) c.chosen_aspects.ensures ∙ chosen_size _ _

@@ -1,7 +1,6 @@
 -- What the check does not find alone for `block_dimensions`.
 use mathlib.Core.Path.{◌≡◌, ap}
 use Prim.Native.Nat.{ℕ, ◌≤◌, ◌<◌}
-use borrow.Author.Rules.{rules}
 use Rattle.measures.specs.declared.BlockDimensions.{BlockDimensions}
 use Rattle.formats.specs.Table.{block_of, block_dimensions}
 use Rattle.formats.specs.Laws.{max_block_side}

@@ -1,5 +1,4 @@
 -- What the check does not find alone for `bytes_of`.
-use borrow.Author.Rules.{rules}
 use Rattle.conditions.proofs.Rules.{lines}
 use Rattle.formats.specs.Aspects.{bytes_of}
 use Rattle.formats.proofs.bytes_of.Goals as goal

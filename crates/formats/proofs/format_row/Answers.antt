@@ -2,7 +2,6 @@
 use mathlib.Core.Path.{sym, ◌∙◌}
 use Prim.Native.Nat.{◌≤◌}
 use lib.ListN.{get_or-eq_default}
-use borrow.Author.Rules.{rules}
 use Rattle.conditions.proofs.Tables.{past_arms}
 use Rattle.formats.specs.Table.{formats, format_row, unknown}
 use Rattle.formats.proofs.Rows.{arm}

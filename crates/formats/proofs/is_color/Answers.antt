@@ -1,8 +1,5 @@
 -- What the check does not find alone for `is_color`.
-use borrow.Author.Rules.{rules}
-use mathlib.Core.Path.{◌≡◌, ap, ◌∙◌}
-use Prim.Native.Nat.{ℕ}
-use native.Mathlib.Omega.{arith}
+use mathlib.Core.Path.{ap, ◌∙◌}
 use borrow.Author.Tests.{eqb-true}
 use Rattle.formats.specs.Aspects.{asked_of}
 use Rattle.formats.proofs.is_color.Goals as goal

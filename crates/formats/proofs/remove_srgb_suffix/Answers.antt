@@ -1,5 +1,4 @@
 -- What the check does not find alone for `remove_srgb_suffix`.
-use borrow.Author.Rules.{rules}
 use Rattle.formats.proofs.Rows.{srgb_fits}
 use Rattle.formats.specs.Table.{remove_srgb}
 use Rattle.formats.proofs.remove_srgb_suffix.Goals as goal

@@ -1,5 +1,4 @@
 -- What the check does not find alone for `physical_size`.
-use borrow.Author.Rules.{rules}
 use Rattle.measures.specs.Measure.{physical_size}
 use Rattle.measures.proofs.physical_size.Goals as goal
 

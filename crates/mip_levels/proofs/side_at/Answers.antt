@@ -8,7 +8,7 @@ use Rattle.mip_levels.proofs.Halving.{halved_is, past}
 use Rattle.mip_levels.proofs.side_at.Goals as goal
 
 pub returns-then-level-ge32 : goal.returns-then-level-ge32
-returns-then-level-ge32 c = let s = c in sym (past s.args.n s.args.level (search rules) c.if-level-ge32.true)
+returns-then-level-ge32 c = sym (past c.args.n c.args.level (search rules) c.if-level-ge32.true)
 
 pub returns-then-halved-eq0 : goal.returns-then-halved-eq0
 unfolding side_at

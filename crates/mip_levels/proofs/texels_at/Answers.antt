@@ -1,6 +1,5 @@
 -- What the check does not find alone for `texels_at`.
 use mathlib.Core.Path.{ap}
-use borrow.Author.Rules.{rules}
 use Rattle.measures.specs.Measure.{texels}
 use Rattle.mip_levels.specs.Level.{texels_at}
 use Rattle.mip_levels.proofs.texels_at.Goals as goal

@@ -7,4 +7,4 @@ use Rattle.plan_buffer_texture.proofs.plan_of.Goals as goal
 
 pub returns : goal.returns
 unfolding plan_of
-returns c = let n = c in let f = n in let e = f in let a = e.args in built _ _ f.first_region-region.ensures (n.count_of-left.ensures ∙ ap (λ (b : Bool). pick b 0 a.layers) e.is_empty-empty.ensures) (c.ranges_of-ranges.ensures ∙ ap (λ (b : Bool). ranges_of b a.texture a.buffer) e.is_empty-empty.ensures)
+returns c = let a = c.args in built _ _ c.first_region-region.ensures (c.count_of-left.ensures ∙ ap (λ (b : Bool). pick b 0 a.layers) c.is_empty-empty.ensures) (c.ranges_of-ranges.ensures ∙ ap (λ (b : Bool). ranges_of b a.texture a.buffer) c.is_empty-empty.ensures)

@@ -7,4 +7,4 @@ use Rattle.plan_textures.proofs.plan_of.Goals as goal
 
 pub returns : goal.returns
 unfolding plan_of
-returns c = let n = c in let e = n in let l = e in let p = l in let a = p.args in built _ _ 0 l.lesser_of-lesser.ensures p.parts_of-parts.ensures (n.region_count-left.ensures ∙ counts_alike _ _ _ _ a.layers e.is_empty.ensures p.parts_of-parts.ensures) c.texture_ranges-ranges.ensures
+returns c = let a = c.args in built _ _ 0 c.lesser_of-lesser.ensures c.parts_of-parts.ensures (c.region_count-left.ensures ∙ counts_alike _ _ _ _ a.layers c.is_empty.ensures c.parts_of-parts.ensures) c.texture_ranges-ranges.ensures

@@ -18,14 +18,14 @@ write_textures-requires c = room_of _ _ _ c.in-Textures.is c.requires
 pub returns-in-Buffers : goal.returns-in-Buffers
 unfolding left_of
 returns-in-Buffers c =
-    let w = c in let all = all_of _ _ _ _ _ w.in-Buffers.is (w.write_buffers.ensures.result_value, w.write_buffers.ensures.out_after) in record { value = all.0; out_after = all.1 }
+    let all = all_of _ _ _ _ _ c.in-Buffers.is (c.write_buffers.ensures.result_value, c.write_buffers.ensures.out_after) in record { value = all.0; out_after = all.1 }
 
 pub returns-in-BufferTexture : goal.returns-in-BufferTexture
 unfolding left_of
 returns-in-BufferTexture c =
-    let w = c in let all = all_of _ _ _ _ _ w.in-BufferTexture.is (w.write_buffer_textures.ensures.result_value, w.write_buffer_textures.ensures.out_after) in record { value = all.0; out_after = all.1 }
+    let all = all_of _ _ _ _ _ c.in-BufferTexture.is (c.write_buffer_textures.ensures.result_value, c.write_buffer_textures.ensures.out_after) in record { value = all.0; out_after = all.1 }
 
 pub returns-in-Textures : goal.returns-in-Textures
 unfolding left_of
 returns-in-Textures c =
-    let w = c in let all = all_of _ _ _ _ _ w.in-Textures.is (w.write_textures.ensures.result_value, w.write_textures.ensures.out_after) in record { value = all.0; out_after = all.1 }
+    let all = all_of _ _ _ _ _ c.in-Textures.is (c.write_textures.ensures.result_value, c.write_textures.ensures.out_after) in record { value = all.0; out_after = all.1 }

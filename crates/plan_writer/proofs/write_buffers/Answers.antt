@@ -10,25 +10,21 @@ use Rattle.plan_writer.proofs.write_buffers.Goals as goal
 pub store_row-at-requires : goal.store_row-at-requires
 unfolding left_of region_numbers
 store_row-at-requires c =
-    let n = c in
-    let u = n.loop-p.invariant in
-    let h = n.loop-p-test.true in
-    let row = c.buffer_row.ensures ∙ ap (λ (a : AskedBuffer). row_of (buffer_numbers a.answer)) n.next-asked.ensures in
+    let u = c.loop-p.invariant in
+    let h = c.loop-p-test.true in
+    let row = c.buffer_row.ensures ∙ ap (λ (a : AskedBuffer). row_of (buffer_numbers a.answer)) c.next-asked.ensures in
     record { count_in_bounds = row_held u h _ row; count_in_bounds_2 = row_room u h _ row }
 
 pub loop-p-smaller : goal.loop-p-smaller
 unfolding left_of behind_of
 loop-p-smaller c =
-    let n = c in
-    fewer n.loop-p.invariant n.loop-p-test.true (ap (λ (a : AskedBuffer). Buffers a.plan) n.next-asked.ensures)
+    fewer c.loop-p.invariant c.loop-p-test.true (ap (λ (a : AskedBuffer). Buffers a.plan) c.next-asked.ensures)
 
 pub loop-p-preserved : goal.loop-p-preserved
 unfolding left_of region_numbers behind_of
 loop-p-preserved c =
-    let s = c in
-    let n = s in
-    let row = s.buffer_row.ensures ∙ ap (λ (a : AskedBuffer). row_of (buffer_numbers a.answer)) n.next-asked.ensures in
-    again n.loop-p.invariant n.loop-p-test.true _ row _ _ _ (ap (λ (a : AskedBuffer). Buffers a.plan) n.next-asked.ensures) s.store_row-at.ensures
+    let row = c.buffer_row.ensures ∙ ap (λ (a : AskedBuffer). row_of (buffer_numbers a.answer)) c.next-asked.ensures in
+    again c.loop-p.invariant c.loop-p-test.true _ row _ _ _ (ap (λ (a : AskedBuffer). Buffers a.plan) c.next-asked.ensures) c.store_row-at.ensures
 
 pub loop-p-init : goal.loop-p-init
 unfolding left_of fields_of

@@ -4,13 +4,11 @@ use Rattle.conditions.proofs.Rules.{not_yes, not_no}
 use Rattle.plan_writer.proofs.write_regions.Goals as goal
 
 pub write_all-behind-requires : goal.write_all-behind-requires
-write_all-behind-requires c = let e = c in long_enough _ _ _ e.is_room.ensures (not_no _ e.if-not-is_room.false)
+write_all-behind-requires c = long_enough _ _ _ c.is_room.ensures (not_no _ c.if-not-is_room.false)
 
 pub returns : goal.returns
 returns c =
-    let w = c in
-    let e = w in
-    let all = written _ _ _ e.is_room.ensures _ _ (not_no _ e.if-not-is_room.false) (w.write_all-behind.ensures.value, w.write_all-behind.ensures.out_after) in
+    let all = written _ _ _ c.is_room.ensures _ _ (not_no _ c.if-not-is_room.false) (c.write_all-behind.ensures.value, c.write_all-behind.ensures.out_after) in
     record { value = all.0; out_after = all.1 }
 
 pub returns-then-not-is_room : goal.returns-then-not-is_room

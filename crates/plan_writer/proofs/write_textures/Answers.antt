@@ -8,34 +8,26 @@ use Rattle.plan_writer.proofs.write_textures.Goals as goal
 pub store_row-at-requires : goal.store_row-at-requires
 unfolding left_of
 store_row-at-requires c =
-    let n = c in
-    let l = n in
-    let h = n.loop-p-test.true in
-    let row = row_with l.args.plan.ranges _ _ n.next-asked.ensures _ c.texture_row.ensures in
-    record { count_in_bounds = row_held l.loop-p.invariant h _ row; count_in_bounds_2 = row_room l.loop-p.invariant h _ row }
+    let h = c.loop-p-test.true in
+    let row = row_with c.args.plan.ranges _ _ c.next-asked.ensures _ c.texture_row.ensures in
+    record { count_in_bounds = row_held c.loop-p.invariant h _ row; count_in_bounds_2 = row_room c.loop-p.invariant h _ row }
 
 pub loop-p-smaller : goal.loop-p-smaller
 unfolding left_of
 loop-p-smaller c =
-    let n = c in
-    let l = n in
-    fewer l.loop-p.invariant n.loop-p-test.true (next_with l.args.plan.ranges _ _ n.next-asked.ensures _ c.textures_with-p.ensures)
+    fewer c.loop-p.invariant c.loop-p-test.true (next_with c.args.plan.ranges _ _ c.next-asked.ensures _ c.textures_with-p.ensures)
 
 pub loop-p-preserved : goal.loop-p-preserved
 unfolding left_of
 loop-p-preserved c =
-    let s = c in
-    let n = s in
-    let l = n in
-    let ranges = l.args.plan.ranges in
-    let row = row_with ranges _ _ n.next-asked.ensures _ s.texture_row.ensures in
-    again l.loop-p.invariant n.loop-p-test.true _ row _ _ _ (next_with ranges _ _ n.next-asked.ensures _ c.textures_with-p.ensures) s.store_row-at.ensures
+    let ranges = c.args.plan.ranges in
+    let row = row_with ranges _ _ c.next-asked.ensures _ c.texture_row.ensures in
+    again c.loop-p.invariant c.loop-p-test.true _ row _ _ _ (next_with ranges _ _ c.next-asked.ensures _ c.textures_with-p.ensures) c.store_row-at.ensures
 
 pub returns : goal.returns
 unfolding left_of
 returns c =
-    let e = c in
-    let done = ended e.loop-p.invariant e.loop-p-test.false in
+    let done = ended c.loop-p.invariant c.loop-p-test.false in
     record { result_value = ap Textures c.textures_with.ensures ∙ done.0; out_after = done.1 }
 
 pub loop-p-init : goal.loop-p-init

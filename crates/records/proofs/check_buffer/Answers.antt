@@ -1,5 +1,4 @@
 -- What the check does not find alone for `check_buffer`.
-use borrow.Author.Rules.{rules}
 use Rattle.refusals.specs.Order.{decided}
 use Rattle.refusals.proofs.Order.{ordered}
 use Rattle.records.specs.Bounds.{buffer_checks}

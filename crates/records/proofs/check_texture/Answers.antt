@@ -1,5 +1,4 @@
 -- What the check does not find alone for `check_texture`.
-use borrow.Author.Rules.{rules}
 use Rattle.refusals.specs.Order.{decided}
 use Rattle.refusals.proofs.Order.{ordered}
 use Rattle.records.specs.Bounds.{texture_checks}

@@ -1,5 +1,4 @@
 -- What the check does not find alone for `check_textures`.
-use borrow.Author.Rules.{rules}
 use Rattle.refusals.specs.Order.{decided}
 use Rattle.records.specs.Bounds.{texture_in_bounds, both_texture_checks}
 use Rattle.records.proofs.Checked.{recorded}

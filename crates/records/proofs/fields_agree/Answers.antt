@@ -1,5 +1,4 @@
 -- What the check does not find alone for `fields_agree`.
-use borrow.Author.Rules.{rules}
 use Rattle.conditions.proofs.Rules.{and_lines}
 use Rattle.records.proofs.fields_agree.Goals as goal
 

@@ -1,5 +1,4 @@
 -- What the check does not find alone for `format_suits`.
-use borrow.Author.Rules.{rules}
 use Rattle.conditions.proofs.Rules.{and_lines}
 use Rattle.records.specs.Bounds.{format_suits}
 use Rattle.records.proofs.format_suits.Goals as goal

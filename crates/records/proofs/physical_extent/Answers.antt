@@ -1,16 +1,14 @@
 -- What the check does not find alone for `physical_extent`.
 use Prim.Native.Nat.{◌≤◌}
 use native.Mathlib.Omega.{arith}
-use borrow.Author.Rules.{rules}
-use Rattle.records.specs.Extents.{logical_extent, physical_extent}
+use Rattle.records.specs.Extents.{physical_extent}
 use Rattle.records.specs.Limits.{max_side}
 use Rattle.records.proofs.Bounded.{texture_laws}
 use Rattle.records.proofs.physical_extent.Goals as goal
 
 pub physical_size-requires : goal.physical_size-requires
 physical_size-requires c =
-    let s = c in
-    let e = (texture_laws s.args.t s.requires).level_sized s.args.level in
+    let e = (texture_laws c.args.t c.requires).level_sized c.args.level in
     let logical = c.logical_extent in
     let width : logical.result.width.0 ≤ max_side = rw logical.ensures e.width_few in
     let height : logical.result.height.0 ≤ max_side = rw logical.ensures e.height_few in

@@ -1,5 +1,4 @@
 -- What the check does not find alone for `planes_suit`.
-use borrow.Author.Rules.{rules}
 use Rattle.conditions.proofs.Rules.{or_lines}
 use Rattle.records.specs.Bounds.{planes_suit}
 use Rattle.records.proofs.planes_suit.Goals as goal

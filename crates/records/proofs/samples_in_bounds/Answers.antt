@@ -1,5 +1,4 @@
 -- What the check does not find alone for `samples_in_bounds`.
-use borrow.Author.Rules.{rules}
 use Rattle.conditions.proofs.Rules.{or_lines}
 use Rattle.records.specs.Bounds.{samples_in_bounds}
 use Rattle.records.proofs.samples_in_bounds.Goals as goal

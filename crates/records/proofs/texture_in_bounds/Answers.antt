@@ -1,5 +1,4 @@
 -- What the check does not find alone for `texture_in_bounds`.
-use borrow.Author.Rules.{rules}
 use Rattle.conditions.proofs.Rules.{and_lines}
 use Rattle.records.specs.Bounds.{texture_in_bounds}
 use Rattle.records.proofs.texture_in_bounds.Goals as goal

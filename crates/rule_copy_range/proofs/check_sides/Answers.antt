@@ -1,5 +1,4 @@
 -- What the check does not find alone for `check_sides`.
-use Rattle.std.proofs.Common.{rules}
 use Rattle.refusals.specs.Order.{decided}
 use Rattle.refusals.proofs.Order.{ordered}
 use Rattle.rule_copy_range.specs.Range.{side_checks}

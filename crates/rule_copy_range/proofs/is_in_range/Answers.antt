@@ -1,5 +1,4 @@
 -- What the check does not find alone for `is_in_range`.
-use Rattle.std.proofs.Common.{rules}
 use Rattle.conditions.proofs.Rules.{and_lines}
 use Rattle.rule_copy_range.proofs.Inside.{as_goes_on}
 use Rattle.rule_copy_range.specs.Inside.{in_range}

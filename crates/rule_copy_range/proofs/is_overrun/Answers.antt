@@ -1,5 +1,5 @@
 -- What the check does not find alone for `is_overrun`.
-use Rattle.std.proofs.Common.{◌≡◌, ℕ, ◌+◌, ◌-◌, Bool, true, false, ◌||◌, ltb, refl, arith, rules, ltb-false, ltb-true, le-ltb, lt-ltb}
+use Rattle.std.proofs.Common.{◌≡◌, ℕ, ◌+◌, ◌-◌, Bool, true, false, ◌||◌, ltb, refl, arith, ltb-false, ltb-true, le-ltb, lt-ltb}
 use Rattle.rule_copy_range.specs.Range.{overruns}
 use Rattle.rule_copy_range.proofs.is_overrun.Goals as goal
 

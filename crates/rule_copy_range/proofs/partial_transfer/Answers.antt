@@ -1,5 +1,4 @@
 -- What the check does not find alone for `partial_transfer`.
-use Rattle.std.proofs.Common.{rules}
 use Rattle.rule_copy_range.specs.Range.{partial_transfer}
 use Rattle.rule_copy_range.proofs.partial_transfer.Goals as goal
 

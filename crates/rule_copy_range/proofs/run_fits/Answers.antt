@@ -1,5 +1,5 @@
 -- What the check does not find alone for `run_fits`.
-use Rattle.std.proofs.Common.{◌≡◌, ◌+◌, Bool, true, false, ◌&&◌, eqb, leb, rules}
+use Rattle.std.proofs.Common.{◌≡◌, ◌+◌, Bool, true, false, ◌&&◌, eqb, leb}
 use Rattle.measures.specs.declared.Texels.{Texels}
 use Rattle.rule_copy_range.specs.Inside.{run_fits}
 use Rattle.rule_copy_range.proofs.run_fits.Goals as goal

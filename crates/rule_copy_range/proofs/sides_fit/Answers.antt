@@ -1,5 +1,4 @@
 -- What the check does not find alone for `sides_fit`.
-use Rattle.std.proofs.Common.{rules}
 use Rattle.conditions.proofs.Rules.{and_lines}
 use Rattle.rule_copy_range.specs.Inside.{sides_fit}
 use Rattle.rule_copy_range.proofs.sides_fit.Goals as goal

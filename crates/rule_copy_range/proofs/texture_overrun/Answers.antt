@@ -1,5 +1,4 @@
 -- What the check does not find alone for `texture_overrun`.
-use Rattle.std.proofs.Common.{rules}
 use Rattle.rule_copy_range.specs.Range.{texture_overrun}
 use Rattle.rule_copy_range.proofs.texture_overrun.Goals as goal
 

@@ -1,5 +1,4 @@
 -- What the check does not find alone for `validate_texture_copy_range`.
-use Rattle.std.proofs.Common.{rules}
 use Rattle.refusals.specs.Order.{decided}
 use Rattle.rule_copy_range.proofs.Rules.{range}
 use Rattle.rule_copy_range.specs.Range.{range_checks, range_checked}

@@ -11,6 +11,5 @@ returns-then-is_depth_stencil_format c = record { value = rw (sym c.is_depth_ste
 pub returns : goal.returns
 unfolding offset_alignment
 returns c =
-    let d = c in
-    let b = d.block_alignment-block.ensures in
-    record { value = rw (sym d.is_depth_stencil_format.ensures ∙ c.if-is_depth_stencil_format.false) b.value; some = b.some }
+    let b = c.block_alignment-block.ensures in
+    record { value = rw (sym c.is_depth_stencil_format.ensures ∙ c.if-is_depth_stencil_format.false) b.value; some = b.some }

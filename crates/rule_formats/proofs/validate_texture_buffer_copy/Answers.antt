@@ -2,7 +2,6 @@
 use mathlib.Core.Path.{◌≡◌, ap, ◌∙◌}
 use mathlib.Core.Bool.{Bool, ◌&&◌, not}
 use Prim.Native.Nat.{ℕ}
-use borrow.Author.Rules.{rules}
 use Rattle.measures.specs.Measure.{multiple}
 use Rattle.refusals.specs.Order.{decided}
 use Rattle.refusals.proofs.Order.{ordered}

@@ -1,5 +1,4 @@
 -- What the check does not find alone for `validate_texture_copy_dst_format`.
-use borrow.Author.Rules.{rules}
 use Rattle.refusals.specs.Order.{decided}
 use Rattle.refusals.proofs.Order.{ordered}
 use Rattle.rule_formats.specs.Rules.{dst_format_checks}

@@ -1,5 +1,4 @@
 -- What the check does not find alone for `validate_texture_copy_src_format`.
-use borrow.Author.Rules.{rules}
 use Rattle.refusals.specs.Order.{decided}
 use Rattle.refusals.proofs.Order.{ordered}
 use Rattle.rule_formats.specs.Rules.{src_format_checks}

@@ -1,5 +1,4 @@
 -- What the check does not find alone for `handle_buffer_init`.
-use borrow.Author.Rules.{rules}
 use Rattle.conditions.proofs.Rules.{flag_lines}
 use Rattle.rule_init_ranges.specs.Init.{buffer_init}
 use Rattle.rule_init_ranges.proofs.handle_buffer_init.Goals as goal

@@ -1,5 +1,4 @@
 -- What the check does not find alone for `range_unless`.
-use borrow.Author.Rules.{rules}
 use Rattle.rule_init_ranges.proofs.range_unless.Goals as goal
 
 pub returns : goal.returns

@@ -1,7 +1,6 @@
 -- What the check does not find alone for `block_bytes`.
 use mathlib.Core.Path.{◌≡◌}
 use native.Mathlib.Omega.{arith}
-use borrow.Author.Rules.{rules}
 use Rattle.rule_linear_data.proofs.Sums.{bytes_few}
 use Rattle.rule_linear_data.specs.Linear.{block_bytes}
 use Rattle.rule_linear_data.proofs.block_bytes.Goals as goal

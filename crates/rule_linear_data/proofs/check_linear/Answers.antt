@@ -1,5 +1,4 @@
 -- What the check does not find alone for `check_linear`.
-use borrow.Author.Rules.{rules}
 use Rattle.rule_linear_data.proofs.Rules.{sizes}
 use Rattle.rule_linear_data.specs.Stages.{linear_staged}
 use Rattle.rule_linear_data.proofs.check_linear.Goals as goal

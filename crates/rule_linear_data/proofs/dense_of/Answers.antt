@@ -1,5 +1,4 @@
 -- What the check does not find alone for `dense_of`.
-use native.Mathlib.Omega.{arith}
 use borrow.Author.Rules.{rules}
 use Rattle.rule_linear_data.proofs.Sums.{row_fits}
 use Rattle.rule_linear_data.specs.Linear.{dense_of}

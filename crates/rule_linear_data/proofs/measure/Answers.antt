@@ -1,5 +1,4 @@
 -- What the check does not find alone for `measure`.
-use borrow.Author.Rules.{rules}
 use Rattle.rule_linear_data.proofs.Rules.{sizes}
 use Rattle.rule_linear_data.specs.Stages.{measured}
 use Rattle.rule_linear_data.proofs.measure.Goals as goal

@@ -1,7 +1,6 @@
 -- What the check does not find alone for `plus`.
 use Prim.Native.Nat.{◌+◌}
 use native.Mathlib.Omega.{arith}
-use borrow.Author.Rules.{rules}
 use Rattle.rule_linear_data.proofs.Sums.{fits, over}
 use Rattle.rule_linear_data.proofs.plus.Goals as goal
 

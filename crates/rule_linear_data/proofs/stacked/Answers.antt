@@ -1,8 +1,7 @@
 -- What the check does not find alone for `stacked`.
-use mathlib.Core.Path.{◌≡◌, sym, ap, ◌∙◌}
+use mathlib.Core.Path.{sym, ap, ◌∙◌}
 use Prim.Native.Nat.{ℕ, ◌+◌, ◌-◌, ◌*◌, ◌^◌, ◌≤◌}
 use native.Mathlib.Omega.{arith}
-use borrow.Author.Rules.{rules}
 use borrow.Author.Tests.{eq-eqb, ne_eqb}
 use Rattle.rule_linear_data.specs.Linear.{stacked}
 use Rattle.rule_linear_data.specs.Stages.{fitting}
@@ -17,16 +16,14 @@ returns-then-items-eq0 c = rw (eq-eqb _ _ c.if-items-eq0.true) (fits (omega arit
 pub returns-in_default : goal.returns-in_default
 unfolding stacked
 returns-in_default c =
-    let t = c in
-    let a = t.args in
-    let strides = over_of ((a.items - 1) * a.stride) t.times-product.ensures c.in_default.is in
+    let a = c.args in
+    let strides = over_of ((a.items - 1) * a.stride) c.times-product.ensures c.in_default.is in
     let all : 2 ^ 64 ≤ (a.items - 1) * a.stride + a.last = omega arith in
-    rw (ne_eqb _ _ t.if-items-eq0.false) (over _ all)
+    rw (ne_eqb _ _ c.if-items-eq0.false) (over _ all)
 
 pub returns : goal.returns
 unfolding stacked
 returns c =
-    let t = c in
-    let a = t.args in
-    let strides = fits_of ((a.items - 1) * a.stride) t.times-product.ensures c.in-Fits.is in
-    c.plus.ensures ∙ rw (ne_eqb _ _ t.if-items-eq0.false) (ap (λ (n : ℕ). fitting (n + a.last)) (sym strides))
+    let a = c.args in
+    let strides = fits_of ((a.items - 1) * a.stride) c.times-product.ensures c.in-Fits.is in
+    c.plus.ensures ∙ rw (ne_eqb _ _ c.if-items-eq0.false) (ap (λ (n : ℕ). fitting (n + a.last)) (sym strides))

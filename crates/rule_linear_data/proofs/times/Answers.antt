@@ -1,7 +1,6 @@
 -- What the check does not find alone for `times`.
 use native.Mathlib.Nat.{zero-mul, pos_of_ne-zero}
 use native.Mathlib.Omega.{arith}
-use borrow.Author.Rules.{rules}
 use Rattle.rule_linear_data.proofs.Sums.{fits, over, product_fits, product_over}
 use Rattle.rule_linear_data.proofs.times.Goals as goal
 

@@ -1,5 +1,4 @@
 -- What the check does not find alone for `validate_linear_texture_data`.
-use borrow.Author.Rules.{rules}
 use Rattle.rule_linear_data.proofs.Staged.{by_law}
 use Rattle.rule_linear_data.proofs.validate_linear_texture_data.Goals as goal
 

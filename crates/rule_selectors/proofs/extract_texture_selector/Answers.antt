@@ -1,5 +1,5 @@
 -- What the check does not find alone for `extract_texture_selector`.
-use Rattle.std.proofs.Common.{sym, refl, ◌∙◌, rules, eq-eqb, ne_eqb}
+use Rattle.std.proofs.Common.{sym, refl, ◌∙◌, eq-eqb, ne_eqb}
 use Rattle.refusals.specs.Order.{decided}
 use Rattle.refusals.proofs.Order.{test_stops, test_passes}
 use Rattle.rule_selectors.specs.declared.SelectorChecked.{SelectorChecked}
@@ -14,7 +14,5 @@ returns-then-aspects-eq0 c = test_stops SelectorChecked Refused _ _ _ _ (eq-eqb 
 pub returns : goal.returns
 unfolding selector_checked selector_checks decided
 returns c =
-    let s = c in
-    let i = s in
-    let a = i.chosen_aspects-aspects.ensures in
-    test_passes SelectorChecked Refused _ _ _ _ (ne_eqb _ 0 (λ z. i.if-aspects-eq0.false (a ∙ z))) (rw (sym a) cc)
+    let a = c.chosen_aspects-aspects.ensures in
+    test_passes SelectorChecked Refused _ _ _ _ (ne_eqb _ 0 (λ z. c.if-aspects-eq0.false (a ∙ z))) (rw (sym a) cc)

@@ -1,5 +1,4 @@
 -- What the check does not find alone for `validate_copy_within_same_texture`.
-use Rattle.std.proofs.Common.{rules}
 use Rattle.refusals.specs.Order.{decided}
 use Rattle.refusals.proofs.Order.{ordered}
 use Rattle.rule_selectors.specs.Selector.{same_texture_checks}

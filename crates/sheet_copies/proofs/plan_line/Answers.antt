@@ -6,10 +6,10 @@ pub returns-then-kind-eq1 : goal.returns-then-kind-eq1
 returns-then-kind-eq1 c = kind_one _ _ _ _ _ _ c.value_of-kind.ensures _ c.if-kind-eq1.true c.plan_buffers.ensures
 
 pub returns-then-kind-eq4 : goal.returns-then-kind-eq4
-returns-then-kind-eq4 c = let t = c in let o = t in kind_four _ _ _ _ _ _ o.value_of-kind.ensures _ o.if-kind-eq1.false t.if-kind-eq4.true c.plan_textures.ensures
+returns-then-kind-eq4 c = kind_four _ _ _ _ _ _ c.value_of-kind.ensures _ c.if-kind-eq1.false c.if-kind-eq4.true c.plan_textures.ensures
 
 pub returns-then-kind-eq5 : goal.returns-then-kind-eq5
-returns-then-kind-eq5 c = let m = c in let t = m in let o = t in kind_five _ _ _ _ _ _ o.value_of-kind.ensures _ o.if-kind-eq1.false t.if-kind-eq4.false m.if-kind-eq5.true c.plan_memory.ensures
+returns-then-kind-eq5 c = kind_five _ _ _ _ _ _ c.value_of-kind.ensures _ c.if-kind-eq1.false c.if-kind-eq4.false c.if-kind-eq5.true c.plan_memory.ensures
 
 pub returns : goal.returns
-returns c = let m = c in let t = m in let o = t in kind_other _ _ _ _ _ _ o.value_of-kind.ensures _ o.if-kind-eq1.false t.if-kind-eq4.false m.if-kind-eq5.false c.plan_buffer_texture.ensures
+returns c = kind_other _ _ _ _ _ _ c.value_of-kind.ensures _ c.if-kind-eq1.false c.if-kind-eq4.false c.if-kind-eq5.false c.plan_buffer_texture.ensures

@@ -5,11 +5,5 @@ use Rattle.sheet_copies.proofs.plan_named_buffers.Goals as goal
 
 pub returns : goal.returns
 returns c =
-    let n = c in
-    let to = n in
-    let from = to in
-    let d = from in
-    let s = d in
-    let j = s in
     c.plan_buffers.ensures
-    ∙ named_buffers_lem _ _ _ _ _ _ _ _ _ _ _ j.word_of-i.ensures j.word_of-j.ensures s.buffer_at-src.ensures d.buffer_at-dst.ensures from.value_of-from.ensures to.value_of-to.ensures n.size_of.ensures
+    ∙ named_buffers_lem _ _ _ _ _ _ _ _ _ _ _ c.word_of-i.ensures c.word_of-j.ensures c.buffer_at-src.ensures c.buffer_at-dst.ensures c.value_of-from.ensures c.value_of-to.ensures c.size_of.ensures

@@ -5,11 +5,5 @@ use Rattle.sheet_copies.proofs.plan_named_memory.Goals as goal
 
 pub returns : goal.returns
 returns c =
-    let n = c in
-    let v = n in
-    let l = v in
-    let m = l in
-    let t = m in
-    let j = t in
     c.plan_memory_upload.ensures
-    ∙ named_memory_lem _ _ _ _ _ _ _ _ _ _ j.word_of-j.ensures t.texture_at-texture.ensures m.value_of-length.ensures l.layout_of-layout.ensures v.view_of-view.ensures n.extent_of-size.ensures
+    ∙ named_memory_lem _ _ _ _ _ _ _ _ _ _ c.word_of-j.ensures c.texture_at-texture.ensures c.value_of-length.ensures c.layout_of-layout.ensures c.view_of-view.ensures c.extent_of-size.ensures

@@ -5,8 +5,4 @@ use Rattle.sheet_copies.proofs.plan_named_textures.Goals as goal
 
 pub returns : goal.returns
 returns c =
-    let j = c in
-    let i = j in
-    let n = i in
-    let d = n in
-    c.plan_textures.ensures ∙ named_textures_lem _ _ _ _ _ _ _ _ i.word_of.ensures d.side_at-src.ensures j.word_of-2.ensures d.side_at-dst.ensures n.extent_of-size.ensures
+    c.plan_textures.ensures ∙ named_textures_lem _ _ _ _ _ _ _ _ c.word_of.ensures c.side_at-src.ensures c.word_of-2.ensures c.side_at-dst.ensures c.extent_of-size.ensures

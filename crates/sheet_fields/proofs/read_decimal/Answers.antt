@@ -1,6 +1,5 @@
 -- What the check does not find alone for `read_decimal`.
 use mathlib.Core.Path.{◌∙◌}
-use Prim.Native.Nat.{◌-◌}
 use borrow.Author.Rules.{rules}
 use Rattle.sheet_fields.proofs.Scans.{scanned_all, scanned_on, scanned_off, decimal_ill, decimal_is}
 use Rattle.conditions.proofs.Rules.{not_yes, not_no}
@@ -14,16 +13,12 @@ loop-i-init c = (decimal_is _ _ _ c.is_plain.ensures (not_no _ c.if-not-is_plain
 
 pub returns-in_default : goal.returns-in_default
 returns-in_default c =
-    let p = c in
-    let w = p in
-    scanned_off _ _ _ w.loop-i.i w.loop-i-test.true _ p.push-n.ensures c.in_default.is ∙ w.loop-i.invariant.0
+    scanned_off _ _ _ c.loop-i.i c.loop-i-test.true _ c.push-n.ensures c.in_default.is ∙ c.loop-i.invariant.0
 
 pub loop-i-preserved : goal.loop-i-preserved
 loop-i-preserved c =
-    let p = c in
-    let w = p in
-    let r = scanned_on _ _ _ w.loop-i.i w.loop-i-test.true _ p.push-n.ensures _ c.in-Is.is in
-    (r.0 ∙ w.loop-i.invariant.0, r.1)
+    let r = scanned_on _ _ _ c.loop-i.i c.loop-i-test.true _ c.push-n.ensures _ c.in-Is.is in
+    (r.0 ∙ c.loop-i.invariant.0, r.1)
 
 pub returns : goal.returns
 returns c = scanned_all _ _ _ c.loop-i.i c.loop-i-test.false c.loop-i.invariant.1 ∙ c.loop-i.invariant.0

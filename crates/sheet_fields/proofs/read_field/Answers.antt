@@ -7,14 +7,11 @@ pub returns-then-e-s : goal.returns-then-e-s
 returns-then-e-s c = field_past _ _ _ _ _ c.gap_after-e.ensures c.if-e-s.true
 
 pub returns-then-b-sep : goal.returns-then-b-sep
-returns-then-b-sep c = let e = c in field_other _ _ _ _ _ e.gap_after-e.ensures e.if-e-s.false c.if-b-sep.true
+returns-then-b-sep c = field_other _ _ _ _ _ c.gap_after-e.ensures c.if-e-s.false c.if-b-sep.true
 
 pub returns : goal.returns
 returns c =
-    let k = c in
-    let d = k in
-    let e = d in
-    field_token _ _ _ _ _ e.gap_after-e.ensures e.if-e-s.false d.if-b-sep.false _ k.rule_of.ensures _ c.read_token.ensures
+    field_token _ _ _ _ _ c.gap_after-e.ensures c.if-e-s.false c.if-b-sep.false _ c.rule_of.ensures _ c.read_token.ensures
 
 pub slice_bounds-read_token-count : goal.slice_bounds-read_token-count
 slice_bounds-read_token-count c = omega (arith, c.gap_after-e.ensures)

@@ -1,6 +1,5 @@
 -- What the check does not find alone for `read_line`.
 use mathlib.Core.Path.{refl, ◌∙◌}
-use Prim.Native.Nat.{◌-◌}
 use borrow.Author.Rules.{rules}
 use lib.ListN.{length-set}
 use Rattle.sheet_fields.specs.Line.{line_of}
@@ -13,22 +12,16 @@ loop-i-init c = (refl, search rules)
 
 pub returns-in_default : goal.returns-in_default
 returns-in_default c =
-    let r = c in
-    let p = r in
-    let w = p in
     c.ill_line.ensures
-    ∙ line_off _ _ _ w.loop-i.i _ _ w.loop-i-test.true _ _ p.separator-sep.ensures r.read_field-f.ensures c.in_default.is
-    ∙ w.loop-i.invariant.0
+    ∙ line_off _ _ _ c.loop-i.i _ _ c.loop-i-test.true _ _ c.separator-sep.ensures c.read_field-f.ensures c.in_default.is
+    ∙ c.loop-i.invariant.0
 
 pub loop-i-preserved : goal.loop-i-preserved
-loop-i-preserved c =
-    let r = c in
-    let p = r in
-    let w = p in (
-      line_on _ _ _ w.loop-i.i _ _ w.loop-i-test.true _ _ p.separator-sep.ensures r.read_field-f.ensures _ _ _ c.in-At.is
-          ∙ w.loop-i.invariant.0,
-      simp length-set w.loop-i.invariant.1,
-    )
+loop-i-preserved c = (
+  line_on _ _ _ c.loop-i.i _ _ c.loop-i-test.true _ _ c.separator-sep.ensures c.read_field-f.ensures _ _ _ c.in-At.is
+      ∙ c.loop-i.invariant.0,
+  simp length-set c.loop-i.invariant.1,
+)
 
 pub returns : goal.returns
 returns c = line_all _ _ _ _ _ _ c.loop-i-test.false ∙ c.loop-i.invariant.0

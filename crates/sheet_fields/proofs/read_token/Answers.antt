@@ -10,5 +10,4 @@ returns-then-both c = rw (← c.is_dash.ensures, ← c.both.ensures, c.if-both.t
 pub returns : goal.returns
 unfolding token_of stop_if
 returns c =
-    let e = c in
-    rw (← e.is_dash.ensures, ← e.both.ensures, e.if-both.false, ← c.read_decimal.ensures) c.not_below.ensures
+    rw (← c.is_dash.ensures, ← c.both.ensures, c.if-both.false, ← c.read_decimal.ensures) c.not_below.ensures

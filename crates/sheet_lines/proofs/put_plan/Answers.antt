@@ -17,5 +17,4 @@ put_ranges-requires c =
 
 pub returns : goal.returns
 returns c =
-    let n = c in
-    plan_put _ _ _ _ _ _ c.put_copy-a.ensures c.put_line-b.ensures c.put_ranges.ensures n.left.ensures n.count.ensures n.bytes_checked.ensures
+    plan_put _ _ _ _ _ _ c.put_copy-a.ensures c.put_line-b.ensures c.put_ranges.ensures c.left.ensures c.count.ensures c.bytes_checked.ensures

@@ -17,7 +17,5 @@ slice_bounds-put_pieces-end-2 c = kept_length _ _ _ (search rules) c.kept-n.ensu
 
 pub returns : goal.returns
 returns c =
-    let p = c in
-    let n = c in
-    let g = n.well_formed.0.1.1 in
-    let all = part_filled _ _ _ _ _ _ _ _ (search (rules, g)) n.kept-m.ensures (search (rules, g.1.1)) n.kept-n.ensures (p.put_pieces-put.ensures.fills, (p.put_pieces-put.ensures.count_in_bounds, p.put_pieces-put.ensures.ends)) in record { fills = all.0; count_in_bounds = all.1.0; ends = all.1.1 }
+    let g = c.well_formed.0.1.1 in
+    let all = part_filled _ _ _ _ _ _ _ _ (search (rules, g)) c.kept-m.ensures (search (rules, g.1.1)) c.kept-n.ensures (c.put_pieces-put.ensures.fills, (c.put_pieces-put.ensures.count_in_bounds, c.put_pieces-put.ensures.ends)) in record { fills = all.0; count_in_bounds = all.1.0; ends = all.1.1 }

@@ -6,34 +6,26 @@ use Rattle.sheet_listing.proofs.Left.{filling_starts, filling_room, filling_on, 
 use Rattle.sheet_listing.proofs.put_pieces.Goals as goal
 
 pub step-stepped-requires : goal.step-stepped-requires
-step-stepped-requires c = let w = c in filling_room w.loop-out.invariant w.loop-out-test.true
+step-stepped-requires c = filling_room c.loop-out.invariant c.loop-out-test.true
 
 pub shape_of-out-then-stepped-at : goal.shape_of-out-then-stepped-at
 shape_of-out-then-stepped-at c =
-    let t = c in
-    let w = t in
-    put_length t.step-stepped.ensures.put ∙ w.loop-out.invariant.same
+    put_length c.step-stepped.ensures.put ∙ c.loop-out.invariant.same
 
 pub returns-then-stepped-at : goal.returns-then-stepped-at
 returns-then-stepped-at c =
-    let t = c in
-    let w = t in
-    let inv = w.loop-out.invariant in
-    let all = filling_stops inv (filling_room inv w.loop-out-test.true) t.step-stepped.ensures.put c.if-stepped-at.true in record { fills = all.0; count_in_bounds = all.1.0; ends = all.1.1 }
+    let inv = c.loop-out.invariant in
+    let all = filling_stops inv (filling_room inv c.loop-out-test.true) c.step-stepped.ensures.put c.if-stepped-at.true in record { fills = all.0; count_in_bounds = all.1.0; ends = all.1.1 }
 
 pub loop-out-smaller : goal.loop-out-smaller
 loop-out-smaller c =
-    let t = c in
-    let w = t in
-    let inv = w.loop-out.invariant in
-    filling_less inv (filling_room inv w.loop-out-test.true) t.step-stepped.ensures.put c.if-stepped-at.false
+    let inv = c.loop-out.invariant in
+    filling_less inv (filling_room inv c.loop-out-test.true) c.step-stepped.ensures.put c.if-stepped-at.false
 
 pub loop-out-preserved : goal.loop-out-preserved
 loop-out-preserved c =
-    let t = c in
-    let w = t in
-    let inv = w.loop-out.invariant in
-    filling_on inv (filling_room inv w.loop-out-test.true) t.step-stepped.ensures.put _ t.step-stepped.ensures.lister_value c.if-stepped-at.false
+    let inv = c.loop-out.invariant in
+    filling_on inv (filling_room inv c.loop-out-test.true) c.step-stepped.ensures.put _ c.step-stepped.ensures.lister_value c.if-stepped-at.false
 
 pub loop-out-init : goal.loop-out-init
 loop-out-init c = filling_starts _ _ _ _ _

@@ -9,5 +9,4 @@ start_good-requires c = sym c.in-Good.is ∙ c.read_sheet-read.ensures
 pub returns-in-Ill : goal.returns-in-Ill
 unfolding listing_of listing_from
 returns-in-Ill c =
-    let r = c in
-    c.start_ill.ensures _ ∙ ap (listing_from _) (sym r.in-Ill.is ∙ r.read_sheet-read.ensures)
+    c.start_ill.ensures _ ∙ ap (listing_from _) (sym c.in-Ill.is ∙ c.read_sheet-read.ensures)

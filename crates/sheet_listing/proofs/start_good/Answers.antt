@@ -4,6 +4,4 @@ use Rattle.sheet_listing.proofs.start_good.Goals as goal
 
 pub returns : goal.returns
 returns c =
-    let b = c in
-    let t = b in
-    started_good _ _ _ _ _ _ t.requires t.find_places.ensures b.find_places-2.ensures c.device_at-device.ensures c.no_plan-plan.ensures
+    started_good _ _ _ _ _ _ c.requires c.find_places.ensures c.find_places-2.ensures c.device_at-device.ensures c.no_plan-plan.ensures

@@ -9,8 +9,7 @@ good_outcome-requires c = sym c.in-Good.is ∙ c.read_sheet-sheet.ensures
 pub returns-in-Good : goal.returns-in-Good
 unfolding outcome_of
 returns-in-Good c =
-    let s = c in
-    c.good_outcome.ensures ∙ ap (outcome_from _) (sym s.in-Good.is ∙ s.read_sheet-sheet.ensures)
+    c.good_outcome.ensures ∙ ap (outcome_from _) (sym c.in-Good.is ∙ c.read_sheet-sheet.ensures)
 
 pub returns-in-Ill : goal.returns-in-Ill
 unfolding outcome_of outcome_from

@@ -1,7 +1,6 @@
 -- What the check does not find alone for `count_newlines`.
 use mathlib.Core.Path.{sym, ◌∙◌}
 use borrow.Author.Rules.{rules}
-use Prim.Native.Nat.{◌-◌}
 use native.Mathlib.Omega.{arith}
 use Rattle.sheet_sections.proofs.SectionLaws.{newlines_on, newlines_past, newlines_all, newlines_start}
 use Rattle.sheet_sections.proofs.count_newlines.Goals as goal
@@ -14,9 +13,8 @@ returns c = let l = c.loop-i in record { value = sym (newlines_all _ _ _ _ c.loo
 
 pub loop-i-preserved : goal.loop-i-preserved
 loop-i-preserved c =
-    let e = c in
-    let l = e.loop-i in
-    (newlines_on _ _ _ _ _ e.loop-i-test.true e.if-i-end.false c.newline_of-n.ensures.value ∙ l.invariant.0, omega (arith, c.newline_of-n.ensures.upper_bound), omega arith)
+    let l = c.loop-i in
+    (newlines_on _ _ _ _ _ c.loop-i-test.true c.if-i-end.false c.newline_of-n.ensures.value ∙ l.invariant.0, omega (arith, c.newline_of-n.ensures.upper_bound), omega arith)
 
 pub loop-i-init : goal.loop-i-init
 loop-i-init c = (newlines_start _ _, search rules, search rules)

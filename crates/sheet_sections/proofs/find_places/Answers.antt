@@ -1,6 +1,5 @@
 -- What the check does not find alone for `find_places`.
 use mathlib.Core.Path.{refl, ◌∙◌}
-use Prim.Native.Nat.{◌-◌}
 use lib.ListN.{length-set}
 use Rattle.sheet_sections.proofs.RowLaws.{places_start, places_on, places_done, places_full}
 use Rattle.sheet_sections.proofs.find_places.Goals as goal
@@ -10,9 +9,8 @@ returns-then-i-count c = let l = c.loop-i in places_done _ _ _ _ _ l.places c.if
 
 pub loop-i-preserved : goal.loop-i-preserved
 loop-i-preserved c =
-    let e = c in
-    let l = e.loop-i in
-    (places_on _ _ _ _ _ l.places _ e.if-i-count.false c.read_row-line.ensures ∙ l.invariant.0, simp length-set l.invariant.1)
+    let l = c.loop-i in
+    (places_on _ _ _ _ _ l.places _ c.if-i-count.false c.read_row-line.ensures ∙ l.invariant.0, simp length-set l.invariant.1)
 
 pub returns : goal.returns
 returns c = let l = c.loop-i in places_full _ _ _ _ _ l.places c.loop-i-test.false ∙ l.invariant.0

@@ -14,5 +14,4 @@ returns-then-kind-eq4 c = rw (ne_eqb _ _ c.if-kind-eq1.false, eq-eqb _ _ c.if-ki
 pub returns : goal.returns
 unfolding copy_codes buffer_texture_codes
 returns c =
-    let k = c in
-    rw (ne_eqb _ _ k.if-kind-eq1.false, ne_eqb _ _ k.if-kind-eq4.false, ← k.linear_code-linear.ensures) c.read_line-2.ensures
+    rw (ne_eqb _ _ c.if-kind-eq1.false, ne_eqb _ _ c.if-kind-eq4.false, ← c.linear_code-linear.ensures) c.read_line-2.ensures

@@ -11,13 +11,10 @@ returns-then-count-least_of c = rw (← c.least_of.ensures, lt-ltb _ _ c.if-coun
 pub returns-then-count-most_of : goal.returns-then-count-most_of
 unfolding section_of_count stop_if
 returns-then-count-most_of c =
-    let e = c in
-    rw (← e.least_of.ensures, le-ltb _ _ e.if-count-least_of.false, ← c.most_of.ensures, lt-ltb _ _ c.if-count-most_of.true)
+    rw (← c.least_of.ensures, le-ltb _ _ c.if-count-least_of.false, ← c.most_of.ensures, lt-ltb _ _ c.if-count-most_of.true)
 
 pub returns : goal.returns
 unfolding section_of_count stop_if
 returns c =
-    let d = c in
-    let e = d in
-    rw (← e.least_of.ensures, le-ltb _ _ e.if-count-least_of.false, ← d.most_of.ensures, le-ltb _ _ d.if-count-most_of.false, ← c.read_rows.ensures)
+    rw (← c.least_of.ensures, le-ltb _ _ c.if-count-least_of.false, ← c.most_of.ensures, le-ltb _ _ c.if-count-most_of.false, ← c.read_rows.ensures)
     c.section_of_rows.ensures

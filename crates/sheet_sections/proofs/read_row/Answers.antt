@@ -14,11 +14,9 @@ returns-then-section-eq-TEXTURES c = rw (ne_eqb _ _ c.if-section-eq-DEVICES.fals
 pub returns-then-section-eq-BUFFERS : goal.returns-then-section-eq-BUFFERS
 unfolding section_line codes_of buffer_codes
 returns-then-section-eq-BUFFERS c =
-    let e = c in
-    rw (ne_eqb _ _ e.if-section-eq-DEVICES.false, ne_eqb _ _ e.if-section-eq-TEXTURES.false, eq-eqb _ _ e.if-section-eq-BUFFERS.true) c.read_line-then-section-eq-BUFFERS.ensures
+    rw (ne_eqb _ _ c.if-section-eq-DEVICES.false, ne_eqb _ _ c.if-section-eq-TEXTURES.false, eq-eqb _ _ c.if-section-eq-BUFFERS.true) c.read_line-then-section-eq-BUFFERS.ensures
 
 pub returns : goal.returns
 unfolding section_line codes_of
 returns c =
-    let e = c in
-    rw (ne_eqb _ _ e.if-section-eq-DEVICES.false, ne_eqb _ _ e.if-section-eq-TEXTURES.false, ne_eqb _ _ e.if-section-eq-BUFFERS.false, ← c.kind_at.ensures) c.read_copy.ensures
+    rw (ne_eqb _ _ c.if-section-eq-DEVICES.false, ne_eqb _ _ c.if-section-eq-TEXTURES.false, ne_eqb _ _ c.if-section-eq-BUFFERS.false, ← c.kind_at.ensures) c.read_copy.ensures

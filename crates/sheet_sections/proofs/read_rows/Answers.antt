@@ -5,13 +5,11 @@ use Rattle.sheet_sections.proofs.read_rows.Goals as goal
 
 pub returns-then-not-line : goal.returns-then-not-line
 returns-then-not-line c =
-    let r = c in
-    rows_off _ _ _ _ _ r.loop-left-test.true r.read_row-line.ensures c.if-not-line.true ∙ r.loop-left.invariant
+    rows_off _ _ _ _ _ c.loop-left-test.true c.read_row-line.ensures c.if-not-line.true ∙ c.loop-left.invariant
 
 pub loop-left-preserved : goal.loop-left-preserved
 loop-left-preserved c =
-    let r = c in
-    rows_on _ _ _ _ _ r.loop-left-test.true r.read_row-line.ensures c.if-not-line.false ∙ r.loop-left.invariant
+    rows_on _ _ _ _ _ c.loop-left-test.true c.read_row-line.ensures c.if-not-line.false ∙ c.loop-left.invariant
 
 pub returns : goal.returns
 returns c = rows_all _ _ _ _ c.loop-left-test.false ∙ c.loop-left.invariant

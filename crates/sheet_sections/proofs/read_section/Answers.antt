@@ -9,4 +9,4 @@ returns-then-not-line c = rw (← c.read_line-line.ensures, c.if-not-line.true)
 
 pub returns : goal.returns
 unfolding section_of section_of_line stop_if
-returns c = let e = c in rw (← e.read_line-line.ensures, e.if-not-line.false) c.read_counted.ensures
+returns c = rw (← c.read_line-line.ensures, c.if-not-line.false) c.read_counted.ensures

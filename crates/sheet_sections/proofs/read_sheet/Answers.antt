@@ -18,8 +18,8 @@ overflow_add-result c = omega (arith, c.count_newlines.ensures.upper_bound)
 
 pub returns-in-Good : goal.returns-in-Good
 unfolding sheet_from
-returns-in-Good c = let f = c in sheet_from_lem _ _ _ _ f.if-s-gt-SHEET_BYTES.false f.find_parts-f.ensures c.in-Good.is refl
+returns-in-Good c = sheet_from_lem _ _ _ _ c.if-s-gt-SHEET_BYTES.false c.find_parts-f.ensures c.in-Good.is refl
 
 pub returns-in-Bad : goal.returns-in-Bad
 unfolding sheet_from
-returns-in-Bad c = let f = c in sheet_from_lem _ _ _ _ f.if-s-gt-SHEET_BYTES.false f.find_parts-f.ensures c.in-Bad.is (ap (λ (n : ℕ). W.Ill (1 + n)) c.count_newlines.ensures.value)
+returns-in-Bad c = sheet_from_lem _ _ _ _ c.if-s-gt-SHEET_BYTES.false c.find_parts-f.ensures c.in-Bad.is (ap (λ (n : ℕ). W.Ill (1 + n)) c.count_newlines.ensures.value)

@@ -1,6 +1,6 @@
 -- What the check does not find alone for `put_bytes`.
 use mathlib.Core.Path.{◌≡◌, refl, ap, ◌∙◌}
-use Prim.Native.Nat.{ℕ, ◌+◌, ◌-◌}
+use Prim.Native.Nat.{ℕ, ◌+◌}
 use native.Mathlib.Omega.{arith}
 use lib.ListN.{length-set}
 use lib.Seq.{sets}
@@ -12,9 +12,8 @@ loop-i-init c = let e : c.args.at + 0 ≡ c.args.at = omega arith in (ap (λ (k 
 
 pub loop-i-preserved : goal.loop-i-preserved
 loop-i-preserved c =
-    let w = c in
-    let l = w.loop-i in
-    (numbers_on l.out _ _ l.i w.loop-i-test.true ∙ l.invariant.0, simp length-set l.invariant.1)
+    let l = c.loop-i in
+    (numbers_on l.out _ _ l.i c.loop-i-test.true ∙ l.invariant.0, simp length-set l.invariant.1)
 
 pub returns : goal.returns
 returns c = let l = c.loop-i in record { next = refl; numbers = numbers_all l.out _ _ l.i c.loop-i-test.false ∙ l.invariant.0 }

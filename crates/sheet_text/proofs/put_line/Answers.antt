@@ -1,13 +1,12 @@
 -- What the check does not find alone for `put_line`.
 use mathlib.Core.Path.{◌∙◌}
-use Prim.Native.Nat.{◌<◌}
 use native.Mathlib.Omega.{arith}
-use lib.ListN.{length, length-set}
+use lib.ListN.{length-set}
 use Rattle.sheet_text.proofs.Puts.{line_put, line_room}
 use Rattle.sheet_text.proofs.put_line.Goals as goal
 
 pub put_numbers-b-requires : goal.put_numbers-b-requires
-put_numbers-b-requires c = let b = c in omega (arith, b.put_bytes-a.ensures.next, b.put_bytes-a.auto.out, b.requires)
+put_numbers-b-requires c = omega (arith, c.put_bytes-a.ensures.next, c.put_bytes-a.auto.out, c.requires)
 
 pub returns : goal.returns
 returns c = line_put _ _ _ c.put_bytes-a.ensures c.put_numbers-b.ensures

@@ -6,4 +6,4 @@ pub returns-then-is_absent : goal.returns-then-is_absent
 returns-then-is_absent c = dash_put _ _ _ c.is_absent.ensures _ _ c.if-is_absent.true
 
 pub returns : goal.returns
-returns c = let e = c in number_put _ _ _ e.is_absent.ensures e.if-is_absent.false c.put_decimal.ensures
+returns c = number_put _ _ _ c.is_absent.ensures c.if-is_absent.false c.put_decimal.ensures

@@ -1,16 +1,13 @@
 -- What the check does not find alone for `put_numbers`.
-use Prim.Native.Nat.{◌-◌}
 use Rattle.sheet_text.proofs.Puts.{underway_start, underway_on, underway_end, number_room}
 use Rattle.sheet_text.proofs.put_numbers.Goals as goal
 
 pub put_number-next-requires : goal.put_number-next-requires
-put_number-next-requires c = let w = c in number_room _ _ _ _ _ _ _ _ w.loop-i.invariant w.loop-i-test.true
+put_number-next-requires c = number_room _ _ _ _ _ _ _ _ c.loop-i.invariant c.loop-i-test.true
 
 pub loop-i-preserved : goal.loop-i-preserved
 loop-i-preserved c =
-    let p = c in
-    let w = p in
-    underway_on _ _ _ _ _ _ _ _ _ w.loop-i.invariant w.loop-i-test.true p.put_number-next.ensures
+    underway_on _ _ _ _ _ _ _ _ _ c.loop-i.invariant c.loop-i-test.true c.put_number-next.ensures
 
 pub returns : goal.returns
 returns c = underway_end _ _ _ _ _ _ _ c.loop-i.invariant c.loop-i-test.false

@@ -3,7 +3,6 @@ use mathlib.Core.Path.{sym, ap}
 use Prim.Native.Nat.{◌*◌, ◌/◌, ◌%◌, ◌≤◌, ◌<◌}
 use native.Mathlib.Omega.{arith}
 use native.Mathlib.Nat.{div-add-mod', le-mul_of_pos_right, pos_of_ne-zero}
-use borrow.Author.Rules.{rules}
 use Rattle.measures.specs.Measure.{blocks, in_blocks}
 use Rattle.measures.proofs.Rounding.{single_blocks, blocks_of_whole, blocks_of_rest}
 use Rattle.measures.proofs.Texels.in_blocks.Goals as goal
@@ -22,8 +21,8 @@ overflow_add-result c =
 
 pub returns-then-self-size-eq0 : goal.returns-then-self-size-eq0
 unfolding in_blocks
-returns-then-self-size-eq0 c = let s = c in ap blocks (sym (blocks_of_whole s.args.side.0 s.requires s.args.self.0 c.if-self-size-eq0.true))
+returns-then-self-size-eq0 c = ap blocks (sym (blocks_of_whole c.args.side.0 c.requires c.args.self.0 c.if-self-size-eq0.true))
 
 pub returns-else-self-size-eq0 : goal.returns-else-self-size-eq0
 unfolding in_blocks
-returns-else-self-size-eq0 c = let s = c in ap blocks (sym (blocks_of_rest s.args.side.0 s.requires s.args.self.0 (pos_of_ne-zero c.if-self-size-eq0.false)))
+returns-else-self-size-eq0 c = ap blocks (sym (blocks_of_rest c.args.side.0 c.requires c.args.self.0 (pos_of_ne-zero c.if-self-size-eq0.false)))

@@ -1,7 +1,6 @@
 -- What the check does not find alone for `rounded_up`.
 use mathlib.Core.Path.{refl, ap}
 use native.Mathlib.Omega.{arith}
-use borrow.Author.Rules.{rules}
 use Rattle.measures.specs.Measure.{texels, blocks_of, rounded_up, round_up}
 use Rattle.measures.proofs.Rounding.{single_texels, tight}
 use Rattle.measures.proofs.Texels.rounded_up.Goals as goal
@@ -15,7 +14,7 @@ overflow_add-result c = let p = c.requires in omega (arith, p.0, p.1)
 
 pub overflow_mul-result : goal.overflow_mul-result
 unfolding blocks_of rounded_up
-overflow_mul-result c = let s = c in omega (arith, tight s.args.side.0 s.requires.0 s.args.self.0, s.requires.1)
+overflow_mul-result c = omega (arith, tight c.args.side.0 c.requires.0 c.args.self.0, c.requires.1)
 
 pub returns : goal.returns
 unfolding blocks_of rounded_up round_up

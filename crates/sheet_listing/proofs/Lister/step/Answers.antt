@@ -8,20 +8,13 @@ returns-then-self c =
 
 pub returns-then-left-gt0 : goal.returns-then-left-gt0
 returns-then-left-gt0 c =
-    let n = c in
     let put = c.put_region-put.ensures in
-    let all = stepped_region _ _ _ _ _ _ _ n.if-self.false n.left.ensures c.if-left-gt0.true put.put put.plan_value c.state_with-then-left-gt0.ensures in record { put = all.0; lister_value = all.1 }
+    let all = stepped_region _ _ _ _ _ _ _ c.if-self.false c.left.ensures c.if-left-gt0.true put.put put.plan_value c.state_with-then-left-gt0.ensures in record { put = all.0; lister_value = all.1 }
 
 pub returns-then-self-gt0 : goal.returns-then-self-gt0
 returns-then-self-gt0 c =
-    let r = c in
-    let t = r in
-    let e = t in
-    let n = e in
-    let all = stepped_copy _ _ _ _ _ _ _ _ _ _ n.if-self.false n.left.ensures e.if-left-gt0.false t.if-self-gt0.true r.read_row-line.ensures c.plan_line-answer.ensures c.copy_number.ensures c.put_answer-next.ensures c.plan_of.ensures c.state_with-then-self-gt0.ensures in record { put = all.0; lister_value = all.1 }
+    let all = stepped_copy _ _ _ _ _ _ _ _ _ _ c.if-self.false c.left.ensures c.if-left-gt0.false c.if-self-gt0.true c.read_row-line.ensures c.plan_line-answer.ensures c.copy_number.ensures c.put_answer-next.ensures c.plan_of.ensures c.state_with-then-self-gt0.ensures in record { put = all.0; lister_value = all.1 }
 
 pub returns : goal.returns
 returns c =
-    let e = c in
-    let n = e in
-    let all = stepped_none _ _ _ _ _ _ _ n.if-self.false n.left.ensures e.if-left-gt0.false c.if-self-gt0.false in record { put = all.0; lister_value = all.1 }
+    let all = stepped_none _ _ _ _ _ _ _ c.if-self.false c.left.ensures c.if-left-gt0.false c.if-self-gt0.false in record { put = all.0; lister_value = all.1 }
