@@ -1,4 +1,5 @@
 #![tactic(auto)]
+
 use std::thread;
 use std::time::{Clock, Duration};
 
