@@ -1,4 +1,4 @@
-use Rattle.std.proofs.Common.{rules, sym, ◌-◌, length}
+use Rattle.std.proofs.Common.{rules, sym, arith, ◌-◌, length}
 use lib.Seq.{length-take-le}
 use Rattle.sheet_calls.proofs.CallLaws.{receiving_starts, receiving_on, receiving_less, receiving_rest, receives, place_fits}
 use Rattle.sheet_calls.proofs.receive.Goals as goal
@@ -7,10 +7,10 @@ pub loop-from-init : goal.loop-from-init
 loop-from-init g c = receiving_starts _ _ c.begin-p.ensures
 
 pub slice_bounds-read_once-count : goal.slice_bounds-read_once-count
-slice_bounds-read_once-count g c = place_fits _ _ _ c.place-from.ensures
+slice_bounds-read_once-count g c = omega (arith, place_fits _ _ _ c.place-from.ensures)
 
 pub slice_bounds-read_once-start : goal.slice_bounds-read_once-start
-slice_bounds-read_once-start g c = place_fits _ _ _ c.place-from.ensures
+slice_bounds-read_once-start g c = omega (arith, place_fits _ _ _ c.place-from.ensures)
 
 pub read_once-next-requires : goal.read_once-next-requires
 read_once-next-requires g c = receiving_rest _ c.loop-from.invariant c.place-from.ensures
