@@ -106,8 +106,8 @@ fn status_descriptor<E: Env>(env: &E) -> Option<u8> {
     Some(digit)
 }
 
-// Writes the status to a descriptor by its name in the file system. Opened for reading too, a pipe that nobody reads from is not waited for;
-// what is in a file stays before the status.
+// Writes the status to a descriptor, which std reaches by its name alone. Opened for reading too, a pipe that nobody reads from is not waited
+// for; what is in a file stays before the status.
 fn report<F: Files>(files: &F, descriptor: Option<u8>, status: u8) {
     let Some(digit) = descriptor else {
         return;
@@ -115,8 +115,8 @@ fn report<F: Files>(files: &F, descriptor: Option<u8>, status: u8) {
     if status > NOT_READ {
         return;
     }
-    let mut name = *b"/dev/fd/0";
-    name[8] = digit;
+    let mut name = *b"/proc/self/fd/0";
+    name[14] = digit;
     let Ok(path) = str::from_utf8(&name) else {
         return;
     };

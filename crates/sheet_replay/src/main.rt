@@ -59,6 +59,7 @@ fn starts_with(l: &[u8], text: &[u8]) -> bool
 }
 
 // That `same` is equality: nothing runs here.
+#[tactic(auto, using(crate::proofs::Bytes::same_law))]
 pub fn same_law()
     ensures { SameLaw }
 {}
@@ -151,6 +152,7 @@ fn print_ill<P: Print>(to: &P, k: u64) {
 }
 
 // 1 if item k differs, and then it is printed; else 0.
+#[tactic(auto, unfolding(crate::specs::Replay::differs))]
 fn check_item<P: Print>(to: &P, s: &[u8], recorded: &[u8], k: u64) -> u64
     ensures { result ≡ differs s.now recorded.now }
 {
@@ -162,6 +164,7 @@ fn check_item<P: Print>(to: &P, s: &[u8], recorded: &[u8], k: u64) -> u64
 }
 
 // An item whose head ends at `first`, of n and m bytes, where so many bytes are there.
+#[tactic(auto, unfolding(crate::specs::Replay::item_of, conditions::specs::Conditions::stop_if))]
 fn fit_item(length: usize, first: usize, n: usize, m: usize) -> Head
     requires { first ≤ length }
     ensures { result ≡ item_of length first n m }
