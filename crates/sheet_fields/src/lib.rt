@@ -63,7 +63,6 @@ fn numbers(least: u64, most: u64, dash: bool) -> Rule
 }
 
 // A code that is none has no value that is allowed.
-#[tactic(auto, unfolding(crate::specs::Codes::rule_of, crate::specs::Codes::rules))]
 fn rule_of(code: u8) -> Rule
     ensures { result ≡ rule_of code }
 {
@@ -108,7 +107,6 @@ fn gap_after(s: &[u8], at: usize) -> usize
 }
 
 // The value with one digit more. The tests come before the arithmetic, so that nothing wraps.
-#[tactic(auto, unfolding(crate::specs::Field::push_of, crate::specs::Field::is_digit))]
 fn push(v: u64, b: u8, high: u64) -> Number
     ensures { result ≡ push_of v b high }
 {
@@ -128,7 +126,6 @@ fn push(v: u64, b: u8, high: u64) -> Number
     Number::Is(v * 10 + d)
 }
 
-#[tactic(auto, using(crate::proofs::Scans::plain_none, crate::proofs::Scans::plain_one, crate::proofs::Scans::plain_many))]
 fn is_plain(t: &[u8]) -> bool
     ensures { result ≡ plain t.now }
 {
@@ -160,7 +157,6 @@ fn read_decimal(t: &[u8], high: u64) -> Number
     Number::Is(v)
 }
 
-#[tactic(auto, using(crate::proofs::Scans::dash_one, crate::proofs::Scans::dash_none))]
 fn is_dash(t: &[u8]) -> bool
     ensures { result ≡ is_dash t.now }
 {
@@ -170,7 +166,6 @@ fn is_dash(t: &[u8]) -> bool
     false
 }
 
-#[tactic(auto, unfolding(crate::specs::Field::not_below, conditions::specs::Conditions::stop_if))]
 fn not_below(least: u64, next: usize, n: Number) -> Field
     ensures { result ≡ not_below least next n }
 {
@@ -186,7 +181,6 @@ fn not_below(least: u64, next: usize, n: Number) -> Field
     }
 }
 
-#[tactic(auto, unfolding(crate::specs::Field::token_of, conditions::specs::Conditions::stop_if))]
 fn read_token(t: &[u8], rule: Rule, next: usize) -> Field
     ensures { result ≡ token_of t.now rule next }
 {
@@ -258,7 +252,6 @@ pub fn read_line(s: &[u8], at: usize, codes: &[u8]) -> Line
     }
 }
 
-#[tactic(auto, using(crate::proofs::Fits::field_laws))]
 pub fn field_laws()
     ensures { FieldLaws }
 {}

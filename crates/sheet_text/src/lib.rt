@@ -27,7 +27,6 @@ pub fn put_decimal(out: &mut [u8], at: usize, n: u64) -> usize
 }
 
 // `-` is printed for the largest number, and only where a number may be absent.
-#[tactic(auto, unfolding(crate::specs::Text::is_absent))]
 fn is_absent(dash: bool, n: u64) -> bool
     ensures { result ≡ is_absent dash n }
 {
