@@ -18,7 +18,7 @@ pub struct Received {
 }
 
 // Whether an error is one that passes: the call was interrupted, or would have had to wait.
-fn passes(error: &Error) -> bool {
+fn error_passes(error: &Error) -> bool {
     match error.kind() {
         ErrorKind::Interrupted => true,
         ErrorKind::WouldBlock => true,
@@ -54,7 +54,7 @@ fn write_once<W: Write, C: Clock>(
     let answer = match output.write(rest) {
         Ok(count) => sheet_io::written(count, false, false),
         Err(error) => {
-            let again = passes(&error);
+            let again = error_passes(&error);
             *last = Some(error);
             sheet_io::written(0, true, again)
         }
@@ -76,7 +76,7 @@ fn read_once<R: Read, C: Clock>(
     let answer = match input.read(room) {
         Ok(count) => sheet_io::got(count, false, false),
         Err(error) => {
-            let again = passes(&error);
+            let again = error_passes(&error);
             *last = Some(error);
             sheet_io::got(0, true, again)
         }
@@ -147,7 +147,7 @@ fn say_error<P: Print>(to: &P, error: &Error) {
 pub fn say_failure<P: Print>(to: &P, last: &Option<Error>, what: &[u8]) {
     let _ = to.write_all(what);
     match last {
-        Some(error) if !passes(error) => {
+        Some(error) if !error_passes(error) => {
             let _ = to.write_all(b": ");
             say_error(to, error);
             let _ = to.write_all(b"\n");
