@@ -1,9 +1,13 @@
 -- What the calls of `read` and `write` were, whatever the system answered to them.
-use Rattle.std.specs.Prelude.{◌≡◌, Bool, true, false, not, List, ℕ, length}
+use Rattle.std.specs.Prelude.{◌≡◌, Bool, true, false, not, List, ℕ, ◌≤◌, length, take}
 use Rattle.sheet_io.specs.declared.Progress.{Progress}
 use Rattle.sheet_io.specs.Progress.{written_of, got_of, start_of, after_of, goes_on, place_of}
 use Rattle.sheet_io.specs.Output.{Writes}
 use Rattle.sheet_calls.specs.declared.Received.{Received}
+
+-- xs has n first bytes: `&xs[..n]` is in bounds, and has as many
+abbrev pub IsPrefixLen : ℕ → List ℕ → Type 0
+IsPrefixLen n xs = (n ≤ length xs) × (n ≡ length (take n xs))
 
 -- what a write answered was taken note of
 pub record Wrote (p r : Progress) : Type 0 where

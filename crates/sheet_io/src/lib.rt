@@ -1,3 +1,4 @@
+#![tactic(auto)]
 // How bytes go through a descriptor, in numbers: how many are left after each call of `read` or `write`, and whether to call again. The
 // calls themselves are made by `sheet_calls`.
 ghost use Rattle.std.specs.Prelude.{◌≡◌, ◌-◌};
@@ -8,7 +9,7 @@ ghost use Rattle.sheet_io.specs.Output.{OutputLaws};
 pub const TRIES: u32 = 60000;
 
 // What a call did: it moved some bytes, found that the input ends, moved none and may do better later, or failed.
-#[derive(Drop)]
+#[derive(Clone, Copy)]
 pub enum Answer {
     Moved(usize),
     End,
@@ -17,7 +18,7 @@ pub enum Answer {
 }
 
 // How many bytes are left to be moved, how many calls in a row may still move nothing, and whether it has failed.
-#[derive(Drop)]
+#[derive(Clone, Copy)]
 pub struct Progress {
     pub left: usize,
     pub tries: u32,
@@ -25,6 +26,7 @@ pub struct Progress {
 }
 
 // What a call did: how many bytes it moved, or what it means that it moved none; whether it failed, and whether its error passes.
+#[tactic(auto, unfolding(crate::specs::Progress::answer_of, conditions::specs::Conditions::stop_if))]
 fn decide(none: Answer, count: usize, failed: bool, passes: bool) -> Answer
     ensures { result ≡ answer_of none count failed passes }
 {
@@ -55,6 +57,7 @@ pub fn got(count: usize, failed: bool, passes: bool) -> Answer
 }
 
 // Before the first call, with so many bytes to be moved.
+#[tactic(auto, unfolding(crate::specs::Progress::start_of))]
 pub fn begin(left: usize) -> Progress
     ensures { result ≡ start_of left }
 {
@@ -73,6 +76,7 @@ fn take_off(a: usize, b: usize) -> usize
 }
 
 impl Progress {
+    #[tactic(auto, unfolding(crate::specs::Progress::after_none))]
     fn after_none(self) -> Progress
         ensures { result ≡ after_none self }
     {
@@ -91,6 +95,7 @@ impl Progress {
     }
 
     // After a call.
+    #[tactic(auto, unfolding(crate::specs::Progress::after_of))]
     pub fn after(self, answer: Answer) -> Progress
         ensures { result ≡ after_of self answer }
     {
@@ -111,6 +116,7 @@ impl Progress {
     }
 
     // Whether there is a reason to call again.
+    #[tactic(auto, unfolding(crate::specs::Progress::goes_on))]
     pub fn goes_on(self) -> bool
         ensures { result ≡ goes_on self }
     {
@@ -121,6 +127,7 @@ impl Progress {
     }
 
     // Where the bytes that are left begin, of so many.
+    #[tactic(auto, unfolding(crate::specs::Progress::place_of))]
     pub fn place(self, count: usize) -> usize
         ensures { result ≡ place_of count self }
     {
@@ -129,6 +136,7 @@ impl Progress {
 }
 
 // What calls do together, whatever each of them returns: nothing runs here.
+#[tactic(auto, using(crate::proofs::OutputProofs::output_laws))]
 pub fn output_laws()
     ensures { OutputLaws }
 {}

@@ -1,14 +1,9 @@
-use libc::types::timespec;
+#![tactic(auto)]
 
-// Waits for a millisecond, or until a signal ends the wait.
-pub fn pause() {
-    let asked = timespec {
-        tv_sec: 0,
-        tv_nsec: 1000000,
-    };
-    let mut left = timespec {
-        tv_sec: 0,
-        tv_nsec: 0,
-    };
-    libc::nanosleep(&asked, &mut left);
+use std::thread;
+use std::time::{Clock, Duration};
+
+// Waits for a millisecond.
+pub fn pause(clock: &impl Clock) {
+    thread::sleep(clock, Duration::from_millis(1));
 }

@@ -6,7 +6,7 @@ use mathlib.Core.List.{List, [], ◌++◌, append_assoc}
 use Prim.Native.Nat.{ℕ, ◌+◌, ◌≤◌, ◌<◌}
 use native.Mathlib.Omega.{arith}
 use native.Mathlib.Nat.{pos_of_ne-zero}
-use borrow.Author.Tests.{not-true, not-false}
+use borrow.Author.Tests.{not-true}
 use lib.ListN.{length, take, drop, length-append, take-append-drop}
 use Rattle.sheet_lines.specs.Lines.{piece_bytes}
 use Rattle.slices.proofs.Puts.{put_take, put_length}
@@ -61,13 +61,11 @@ module _ {s : List ℕ} {st next : Listing} {n : ℕ} {whole : Bool} (part : Par
       omega (arith, k, part.count, pos_of_ne-zero some)
 
   module _ (i : ListingOn s st) where
-    pub lists_stop : not whole ≡ true → Lists s false
-    lists_stop e = i.onto _ false (stop next part.left (subst (Sends part.text) (not-true whole e) part.sent))
+    pub lists_stop : whole ≡ false → Lists s false
+    lists_stop e = i.onto _ false (stop next part.left (subst (Sends part.text) e part.sent))
 
-    pub lists_on : not whole ≡ false → ListingOn s next
-    lists_on e =
-        let w : whole ≡ true = not-false whole e in
-        record { onto = λ taken all_of d. i.onto _ all_of (on next part.left (subst (Sends part.text) w part.sent) d) }
+    pub lists_on : whole ≡ true → ListingOn s next
+    lists_on e = record { onto = λ taken all_of d. i.onto _ all_of (on next part.left (subst (Sends part.text) e part.sent) d) }
 
     pub lists_end : n ≡ 0 → Lists s true
     lists_end e = i.onto _ true (all (part.none e))
@@ -90,7 +88,7 @@ module _ {s out₀ out m : List ℕ} {st : Listing} (next : Listing) {n : ℕ} (
     part : PartSent s st next n whole
     part = part_sent t.room filled sent
 
-    pub turn_stops : not whole ≡ true → Lists s false
+    pub turn_stops : whole ≡ false → Lists s false
     turn_stops e = lists_stop part t.listing e
 
     pub turn_ends : n ≡ 0 → Lists s true
@@ -99,7 +97,7 @@ module _ {s out₀ out m : List ℕ} {st : Listing} (next : Listing) {n : ℕ} (
     pub turn_less : (n ≡ 0 → ⊥) → length (rest_of s next) < length (rest_of s st)
     turn_less some = part_less part some
 
-    pub turn_goes_on : not whole ≡ false → Turn s out₀ m next
+    pub turn_goes_on : whole ≡ true → Turn s out₀ m next
     turn_goes_on e = record { listing = lists_on part t.listing e; same = turn_same; room = omega (arith, t.room, put_length filled.0.put) }
 
 -- ---- what was taken
@@ -139,19 +137,19 @@ every_listing s whole l =
 -- ---- the status
 
 module _ {s heading : List ℕ} {sent : Bool} (h : Sends heading sent) where
-  pub status_unheaded : not sent ≡ true → StatusFor s heading 3
-  status_unheaded e = no_heading (subst (Sends heading) (not-true sent e) h)
+  pub status_unheaded : sent ≡ false → StatusFor s heading 3
+  status_unheaded e = no_heading (subst (Sends heading) e h)
 
-  module _ (g : not sent ≡ false) {whole : Bool} (l : Lists s whole) where
+  module _ (g : sent ≡ true) {whole : Bool} (l : Lists s whole) where
     headed : Sends heading true
-    headed = subst (Sends heading) (not-false sent g) h
+    headed = subst (Sends heading) g h
 
-    pub status_unlisted : not whole ≡ true → StatusFor s heading 3
-    status_unlisted e = no_listing headed (subst (Lists s) (not-true whole e) l)
+    pub status_unlisted : whole ≡ false → StatusFor s heading 3
+    status_unlisted e = no_listing headed (subst (Lists s) e l)
 
 pub status_listed :
-    {s heading : List ℕ} {sent whole : Bool} (o : Outcome) (r : ℕ) → Sends heading sent → not sent ≡ false → Lists s whole → not whole ≡ false
+    {s heading : List ℕ} {sent whole : Bool} (o : Outcome) (r : ℕ) → Sends heading sent → sent ≡ true → Lists s whole → whole ≡ true
     → r ≡ status_of o → o ≡ outcome_of s → StatusFor s heading r
 status_listed {s} {heading} {sent} {whole} o r h g l k e is =
     let n : r ≡ status_of (outcome_of s) = e ∙ ap status_of is in
-    subst (StatusFor s heading) (sym n) (listed (subst (Sends heading) (not-false sent g) h) (subst (Lists s) (not-false whole k) l))
+    subst (StatusFor s heading) (sym n) (listed (subst (Sends heading) g h) (subst (Lists s) k l))

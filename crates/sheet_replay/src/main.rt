@@ -1,3 +1,4 @@
+#![tactic(auto)]
 // Reads a list of sheets, each with its listing, on standard input, and lists each sheet again: prints the items whose listing
 // differs from the one on the list, and how many there are.
 ghost use Rattle.std.specs.Prelude.{◌≡◌, ◌++◌, ◌+◌, ◌≤◌, ◌<◌, length, drop};
@@ -6,9 +7,9 @@ ghost use Rattle.sheet_text.specs.Text.{decimal};
 ghost use Rattle.sheet_listing.specs.Listing.{rest_of, listing_of};
 ghost use Rattle.sheet_replay.specs.Replay.{starts, same, SameLaw, differs, Compares, item_of, head_of, list_bytes, replay_word, end_line, Replays, text_bytes, differs_text, counts_text, ill_text};
 
-use libc::STDOUT_FILENO;
 use sheet_fields::Field;
 use sheet_listing::Listing;
+use std::io::{Print, Read};
 
 // Room for the list and a byte more, which tells that there is more.
 const SPACE: usize = 262144;
@@ -17,7 +18,7 @@ const SPACE: usize = 262144;
 const TEXT_BYTES: usize = 64;
 
 // Whether some bytes of a listing stand on the record, how many they are, and the state after them.
-#[derive(Drop)]
+#[derive(Clone, Copy)]
 pub struct Compared {
     pub agrees: bool,
     pub count: usize,
@@ -25,14 +26,14 @@ pub struct Compared {
 }
 
 // Where an item's sheet begins, where its listing does, and the place after it.
-#[derive(Drop)]
+#[derive(Clone, Copy)]
 pub enum Head {
     Item(usize, usize, usize),
     Ill,
 }
 
 // How many items were read and how many differ; whether an ill one follows.
-#[derive(Drop)]
+#[derive(Clone, Copy)]
 pub struct Verdict {
     pub ill: bool,
     pub items: u64,
@@ -58,6 +59,7 @@ fn starts_with(l: &[u8], text: &[u8]) -> bool
 }
 
 // That `same` is equality: nothing runs here.
+#[tactic(auto, using(crate::proofs::Bytes::same_law))]
 pub fn same_law()
     ensures { SameLaw }
 {}
@@ -131,36 +133,38 @@ fn put_ill(out: &mut [u8], k: u64) -> usize
     sheet_text::put_line(out, 0, b"ill list at item", false, &ns)
 }
 
-fn print_differs(k: u64) {
+fn print_differs<P: Print>(to: &P, k: u64) {
     let mut out = [0u8; TEXT_BYTES];
     let n = put_differs(&mut out, k);
-    io::write_all(STDOUT_FILENO, &out[..n]);
+    let _ = to.write_all(&out[..n]);
 }
 
-fn print_counts(items: u64, differ: u64) {
+fn print_counts<P: Print>(to: &P, items: u64, differ: u64) {
     let mut out = [0u8; TEXT_BYTES];
     let n = put_counts(&mut out, items, differ);
-    io::write_all(STDOUT_FILENO, &out[..n]);
+    let _ = to.write_all(&out[..n]);
 }
 
-fn print_ill(k: u64) {
+fn print_ill<P: Print>(to: &P, k: u64) {
     let mut out = [0u8; TEXT_BYTES];
     let n = put_ill(&mut out, k);
-    io::write_all(STDOUT_FILENO, &out[..n]);
+    let _ = to.write_all(&out[..n]);
 }
 
 // 1 if item k differs, and then it is printed; else 0.
-fn check_item(s: &[u8], recorded: &[u8], k: u64) -> u64
+#[tactic(auto, unfolding(crate::specs::Replay::differs))]
+fn check_item<P: Print>(to: &P, s: &[u8], recorded: &[u8], k: u64) -> u64
     ensures { result ≡ differs s.now recorded.now }
 {
     if lists_as(s, recorded) {
         return 0;
     }
-    print_differs(k);
+    print_differs(to, k);
     1
 }
 
 // An item whose head ends at `first`, of n and m bytes, where so many bytes are there.
+#[tactic(auto, unfolding(crate::specs::Replay::item_of, conditions::specs::Conditions::stop_if))]
 fn fit_item(length: usize, first: usize, n: usize, m: usize) -> Head
     requires { first ≤ length }
     ensures { result ≡ item_of length first n m }
@@ -212,7 +216,7 @@ fn is_end(s: &[u8], at: usize) -> bool
     starts_with(&s[at..], b"end\n")
 }
 
-fn replay(s: &[u8]) -> Verdict
+fn replay<P: Print>(to: &P, s: &[u8]) -> Verdict
     requires { length s.now < list_bytes }
     ensures replays { Replays s.now 0 0 0 result }
     ensures result_in_bounds { result.items ≤ length s.now }
@@ -237,30 +241,47 @@ fn replay(s: &[u8]) -> Verdict
             };
         };
         items += 1;
-        differ += check_item(&s[first..listing], &s[listing..next], items);
+        differ += check_item(to, &s[first..listing], &s[listing..next], items);
         at = next;
     }
 }
 
-fn print_verdict(v: Verdict)
+fn print_verdict<P: Print>(to: &P, v: Verdict)
     requires { v.items < list_bytes }
 {
     if v.ill {
-        return print_ill(v.items + 1);
+        return print_ill(to, v.items + 1);
     }
-    print_counts(v.items, v.differ)
+    print_counts(to, v.items, v.differ)
 }
 
 // A list that fills the space may go on.
-fn run(s: &[u8]) {
+fn run<P: Print>(to: &P, s: &[u8]) {
     if s.len() >= SPACE {
-        return print_ill(1);
+        return print_ill(to, 1);
     }
-    print_verdict(replay(s))
+    print_verdict(to, replay(to, s))
 }
 
-fn main() {
+// Reads until the room is full, the input ends or a read fails, and answers how many bytes were read.
+fn read_full<R: Read>(input: &mut R, room: &mut [u8]) -> usize
+    ensures { result ≤ length room.new }
+{
+    let mut done: usize = 0;
+    while done < room.len() {
+        let Ok(n) = input.read(&mut room[done..]) else {
+            break;
+        };
+        if n == 0 {
+            break;
+        }
+        done += n;
+    }
+    done
+}
+
+fn main(rt: HostRuntime) {
     let mut space = [0u8; SPACE];
-    let n = io::read_full(0, &mut space);
-    run(&space[..n]);
+    let n = read_full(&mut rt.stdin(), &mut space);
+    run(&rt.stdout(), &space[..n]);
 }
