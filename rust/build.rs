@@ -13,8 +13,11 @@ const SCRIPT: &str = "library";
 /// Names the folder of the archive where it is kept elsewhere; a relative path is seen from the folder of this file.
 const FOLDER_VARIABLE: &str = "COPY_PLANNER_LIB_DIR";
 
-/// What the archive is made of and by, in the repository's root.
-const SOURCES: [&str; 5] = ["crates", "crates.txt", "KIT", "building.sh", SCRIPT];
+/// What the archive is made of and by, in the repository's root, beside the crates.
+const SOURCES: [&str; 4] = ["crates.txt", "KIT", "building.sh", SCRIPT];
+
+/// What a crate is made of. Beside it stands what the checks keep, which says nothing of the crate.
+const PARTS: [&str; 3] = ["src", "specs", "proofs"];
 
 fn main() {
     println!("cargo:rerun-if-env-changed={FOLDER_VARIABLE}");
@@ -54,8 +57,20 @@ fn archive_of_the_repository() -> Result<PathBuf, String> {
     for source in SOURCES {
         println!("cargo:rerun-if-changed={}", root.join(source).display());
     }
+    for part in parts_of_crates(&root.join("crates")) {
+        println!("cargo:rerun-if-changed={}", part.display());
+    }
     make_archive(&root)?;
     Ok(root.join("target/staticlib").join(ARCHIVE))
+}
+
+/// The folders that crates are made of; a crate that comes or goes changes `crates.txt`.
+fn parts_of_crates(crates: &Path) -> Vec<PathBuf> {
+    let folders = fs::read_dir(crates).into_iter().flatten().flatten();
+    folders
+        .flat_map(|folder| PARTS.map(|part| folder.path().join(part)))
+        .filter(|part| part.is_dir())
+        .collect()
 }
 
 /// Has the archive made where it is missing or older than its sources, which takes minutes: every function of the planner is proved on the
