@@ -1,0 +1,58 @@
+-- Past the records, the first check of the range refuses a level that is not there.
+-- Assumes nothing.
+use mathlib.Core.Path.{◌≡◌, refl}
+use mathlib.Core.Bool.{true}
+use mathlib.Core.List.{flatten}
+use Prim.Native.Nat.{ℕ, ◌≤◌}
+use borrow.Author.Tests.{le-leb}
+use Rattle.measures.specs.declared.Extent3d.{Extent3d}
+use Rattle.refusals.specs.declared.CopySide.{CopySide}
+use Rattle.refusals.specs.declared.CopySide.TheVariants.{Source, Destination}
+use Rattle.refusals.specs.declared.TransferError.{TransferError}
+use Rattle.refusals.specs.declared.TransferError.TheVariants as E
+use Rattle.refusals.specs.Numbers.{numbers_of}
+use Rattle.refusals.specs.Order.{refuse_if, first, decided}
+use Rattle.records.specs.declared.Buffer.{Buffer}
+use Rattle.records.specs.declared.Device.{Device}
+use Rattle.records.specs.declared.Texture.{Texture}
+use Rattle.records.specs.declared.TexelCopyTextureInfo.{TexelCopyTextureInfo}
+use Rattle.records.specs.declared.TexelCopyBufferLayout.{TexelCopyBufferLayout}
+use Rattle.records.specs.Bounds.{buffer_in_bounds, texture_in_bounds}
+use Rattle.records.proofs.Checked.{buffer_passes, texture_passes}
+use Rattle.rule_copy_range.specs.Range.{range_checks}
+use Rattle.copy_buffer_texture.specs.declared.BufferTexturePlanned.{BufferTexturePlanned}
+use Rattle.copy_buffer_texture.specs.declared.BufferTexturePlanned.TheVariants as B
+use Rattle.copy_buffer_texture.specs.Plan.{upload_checks, download_checks, planned, buffer_to_texture, memory_to_texture, texture_to_buffer}
+use Rattle.claim_webgpu_copies.proofs.Records.{record_bounds}
+use Rattle.claim_refusals.specs.Levels.{MissingLevel, EveryMissingLevel}
+
+module _ (t : Texture) (view : TexelCopyTextureInfo) (bounds : texture_in_bounds t ≡ true) (missing : t.mip_level_count ≤ view.mip_level) where
+  abbrev why : TransferError
+  why = E.InvalidTextureMipLevel view.mip_level t.mip_level_count
+
+  range_stops : (side : CopySide) (size : Extent3d) (rest : BufferTexturePlanned) → first (flatten (range_checks view t side size)) B.Refused rest ≡ B.Refused why
+  unfolding range_checks refuse_if flatten first
+  range_stops side size rest = rw (le-leb _ _ missing)
+
+  from_buffer : (device : Device) (b : Buffer) (layout : TexelCopyBufferLayout) (size : Extent3d) → buffer_in_bounds b ≡ true → buffer_to_texture device b layout t view size ≡ B.Refused why
+  unfolding buffer_to_texture planned upload_checks decided first
+  from_buffer device b layout size h = rw (buffer_passes b Source h) (rw (texture_passes t Destination bounds) (range_stops Destination size _))
+
+  from_memory : (device : Device) (length : ℕ) (layout : TexelCopyBufferLayout) (size : Extent3d) → memory_to_texture device length layout t view size ≡ B.Refused why
+  unfolding memory_to_texture planned upload_checks decided first flatten
+  from_memory device length layout size = rw (texture_passes t Destination bounds) (range_stops Destination size _)
+
+  into_buffer : (device : Device) (b : Buffer) (layout : TexelCopyBufferLayout) (size : Extent3d) → buffer_in_bounds b ≡ true → texture_to_buffer device t view b layout size ≡ B.Refused why
+  unfolding texture_to_buffer planned download_checks decided first
+  into_buffer device b layout size h = rw (texture_passes t Source bounds) (rw (buffer_passes b Destination h) (range_stops Source size _))
+
+  missing_level : MissingLevel t view
+  unfolding numbers_of
+  missing_level = record {
+    buffer_to_texture = λ device b layout size h. (why, from_buffer device b layout size ((record_bounds.buffers b).1 h), refl);
+    memory_to_texture = λ device length layout size. (why, from_memory device length layout size, refl);
+    texture_to_buffer = λ device b layout size h. (why, into_buffer device b layout size ((record_bounds.buffers b).1 h), refl);
+  }
+
+pub every_missing_level : EveryMissingLevel
+every_missing_level t view bounds missing = missing_level t view ((record_bounds.textures t).1 bounds) missing
