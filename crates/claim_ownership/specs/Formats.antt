@@ -51,9 +51,9 @@ formats =
     ∷ stencil 1  -- 15 stencil8
     ∷ depth 2  -- 16 depth16unorm
     ∷ depth none  -- 17 depth24plus
-    ∷ (depth none ++ stencil 1)  -- 18 depth24plus_stencil8
+    ∷ (depth none ++ stencil 1)  -- 18 depth24plus-stencil8
     ∷ depth 4  -- 19 depth32float
-    ∷ (depth 4 ++ stencil 1)  -- 20 depth32float_stencil8
+    ∷ (depth 4 ++ stencil 1)  -- 20 depth32float-stencil8
     ∷ (plane0 1 ++ plane1 2)  -- 21 NV12
     ∷ []
 

@@ -34,24 +34,24 @@ module _ (t : Texture) (view : TexelCopyTextureInfo) (bounds : texture_in_bounds
   unfolding range_checks refuse_if flatten first
   range_stops side size rest = rw (le-leb _ _ missing)
 
-  from_buffer : (device : Device) (b : Buffer) (layout : TexelCopyBufferLayout) (size : Extent3d) → buffer_in_bounds b ≡ true → buffer_to_texture device b layout t view size ≡ B.Refused why
+  of_buffer : (device : Device) (b : Buffer) (layout : TexelCopyBufferLayout) (size : Extent3d) → buffer_in_bounds b ≡ true → buffer_to_texture device b layout t view size ≡ B.Refused why
   unfolding buffer_to_texture planned upload_checks decided first
-  from_buffer device b layout size h = rw (buffer_passes b Source h) (rw (texture_passes t Destination bounds) (range_stops Destination size _))
+  of_buffer device b layout size h = rw (buffer_passes b Source h) (rw (texture_passes t Destination bounds) (range_stops Destination size _))
 
-  from_memory : (device : Device) (length : ℕ) (layout : TexelCopyBufferLayout) (size : Extent3d) → memory_to_texture device length layout t view size ≡ B.Refused why
+  of_memory : (device : Device) (length : ℕ) (layout : TexelCopyBufferLayout) (size : Extent3d) → memory_to_texture device length layout t view size ≡ B.Refused why
   unfolding memory_to_texture planned upload_checks decided first flatten
-  from_memory device length layout size = rw (texture_passes t Destination bounds) (range_stops Destination size _)
+  of_memory device length layout size = rw (texture_passes t Destination bounds) (range_stops Destination size _)
 
-  into_buffer : (device : Device) (b : Buffer) (layout : TexelCopyBufferLayout) (size : Extent3d) → buffer_in_bounds b ≡ true → texture_to_buffer device t view b layout size ≡ B.Refused why
+  to_buffer : (device : Device) (b : Buffer) (layout : TexelCopyBufferLayout) (size : Extent3d) → buffer_in_bounds b ≡ true → texture_to_buffer device t view b layout size ≡ B.Refused why
   unfolding texture_to_buffer planned download_checks decided first
-  into_buffer device b layout size h = rw (texture_passes t Source bounds) (rw (buffer_passes b Destination h) (range_stops Source size _))
+  to_buffer device b layout size h = rw (texture_passes t Source bounds) (rw (buffer_passes b Destination h) (range_stops Source size _))
 
   missing_level : MissingLevel t view
   unfolding numbers_of
   missing_level = record {
-    buffer_to_texture = λ device b layout size h. (why, from_buffer device b layout size ((record_bounds.buffers b).1 h), refl);
-    memory_to_texture = λ device length layout size. (why, from_memory device length layout size, refl);
-    texture_to_buffer = λ device b layout size h. (why, into_buffer device b layout size ((record_bounds.buffers b).1 h), refl);
+    from_buffer = λ device b layout size h. (why, of_buffer device b layout size ((record_bounds.buffers b).1 h), refl);
+    from_memory = λ device length layout size. (why, of_memory device length layout size, refl);
+    into_buffer = λ device b layout size h. (why, to_buffer device b layout size ((record_bounds.buffers b).1 h), refl);
   }
 
 pub every_missing_level : EveryMissingLevel

@@ -26,13 +26,13 @@ RefusedWith n answer = (e : TransferError) × (answer ≡ B.Refused e) × (numbe
 
 -- a copy of a texture within its bounds and of a level that it does not have
 pub record MissingLevel (t : Texture) (view : TexelCopyTextureInfo) : Type 0 where
-  pub buffer_to_texture :
+  pub from_buffer :
       (device : Device) (b : Buffer) (layout : TexelCopyBufferLayout) (size : Extent3d)
       → BufferInBounds b → RefusedWith (no_level view t) (buffer_to_texture device b layout t view size)
-  pub memory_to_texture :
+  pub from_memory :
       (device : Device) (length : ℕ) (layout : TexelCopyBufferLayout) (size : Extent3d)
       → RefusedWith (no_level view t) (memory_to_texture device length layout t view size)
-  pub texture_to_buffer :
+  pub into_buffer :
       (device : Device) (b : Buffer) (layout : TexelCopyBufferLayout) (size : Extent3d)
       → BufferInBounds b → RefusedWith (no_level view t) (texture_to_buffer device t view b layout size)
 

@@ -40,7 +40,7 @@ PLANE_1 = 16
 abbrev pub PLANE_2 : ℕ
 PLANE_2 = 32
 
--- the bits of formats 15 to 21: stencil8, depth16unorm, depth24plus, depth24plus_stencil8, depth32float, depth32float_stencil8, NV12
+-- the bits of formats 15 to 21: stencil8, depth16unorm, depth24plus, depth24plus-stencil8, depth32float, depth32float-stencil8, NV12
 abbrev pub from_stencil8 : List (List ℕ)
 from_stencil8 =
     (STENCIL ∷ [])
@@ -88,7 +88,7 @@ is_combined s = eqb (bits s) (DEPTH + STENCIL)
 abbrev pub is_nv12 : TextureSide → Bool
 is_nv12 s = eqb s.texture.format 21
 
--- All of a combined depth_stencil format becomes depth, then stencil; NV12 to NV12 plane 0, then plane 1, halved
+-- All of a combined depth-stencil format becomes depth, then stencil; NV12 to NV12 plane 0, then plane 1, halved
 unfoldable pub parts : Copy → List Part
 parts c =
     cond (is_combined c.dst) (part DEPTH DEPTH 1 ∷ part STENCIL STENCIL 1 ∷ [])

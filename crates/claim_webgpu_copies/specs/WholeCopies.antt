@@ -86,7 +86,7 @@ pub record Compared (c : Copy) : Type 0 where
   pub rows_field : Fits32 c.layout.rows_per_image
   pub length_field : LengthFits c.direction
 
--- exception, 34: a depth_or_stencil format without the fact
+-- exception, 34: a depth-or-stencil format without the fact
 abbrev pub DepthRestricted : Copy → Type 0
 DepthRestricted c = (is_depth_or_stencil c.texture.format ≡ true) × (c.device.depth_texture_and_buffer_copies ≡ false)
 

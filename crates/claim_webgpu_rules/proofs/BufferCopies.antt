@@ -43,7 +43,7 @@ lacking Plane0 format = not (is_depth_or_stencil format)
 lacking Plane1 format = not (is_depth_or_stencil format)
 lacking Plane2 format = not (is_depth_or_stencil format)
 
--- the format's rule and one aspect are what the standard allows, and but for depth_or_stencil a block has bytes
+-- the format's rule and one aspect are what the standard allows, and but for depth-or-stencil a block has bytes
 agrees : Bool → TextureAspect → ℕ → Bool
 agrees reads aspect format =
     lacking aspect format

@@ -1,4 +1,4 @@
--- The standard's texture formats, from its tables of plain color, packed and depth_stencil formats. A record names a format by
+-- The standard's texture formats, from its tables of plain color, packed and depth-stencil formats. A record names a format by
 -- document 01's number, which is its place here. NV12 (21) is not in the standard.
 use Rattle.std.specs.Prelude.{Bool, true, false, ◌&&◌, ◌||◌, cond, List, [], ◌∷◌, ℕ, ◌<◌, eqb, length, get_or}
 use Rattle.mip_levels.specs.declared.TextureDimension.{TextureDimension}
@@ -55,9 +55,9 @@ formats =
     ∷ depth_stencil (part Stencil 1 true true ∷ [])  -- 15 stencil8
     ∷ depth_stencil (part Depth 2 true true ∷ [])  -- 16 depth16unorm
     ∷ depth_stencil (part Depth none false false ∷ [])  -- 17 depth24plus
-    ∷ depth_stencil (part Depth none false false ∷ part Stencil 1 true true ∷ [])  -- 18 depth24plus_stencil8
+    ∷ depth_stencil (part Depth none false false ∷ part Stencil 1 true true ∷ [])  -- 18 depth24plus-stencil8
     ∷ depth_stencil (part Depth 4 true false ∷ [])  -- 19 depth32float
-    ∷ depth_stencil (part Depth 4 true false ∷ part Stencil 1 true true ∷ [])  -- 20 depth32float_stencil8
+    ∷ depth_stencil (part Depth 4 true false ∷ part Stencil 1 true true ∷ [])  -- 20 depth32float-stencil8
     ∷ []
 
 -- the number names a format of the standard
@@ -70,7 +70,7 @@ format_of format = get_or formats format (depth_stencil [])
 
 -- ---- aspects
 
--- a depth_or_stencil format has a depth or a stencil aspect
+-- a depth-or-stencil format has a depth or a stencil aspect
 abbrev pub is_color : Aspect → Bool
 is_color Color = true
 is_color Depth = false

@@ -133,7 +133,7 @@ module _ (layout : TexelCopyBufferLayout) (widthInBlocks heightInBlocks block_by
 
 -- ---- "validating texture buffer copy", "validating GPUTexelCopyBufferInfo"
 
--- the aspects that a copy with a buffer, or from memory, takes: of a depth_or_stencil format those that the view names; of any other the rule does not
+-- the aspects that a copy with a buffer, or from memory, takes: of a depth-or-stencil format those that the view names; of any other the rule does not
 -- look at the view's aspect
 unfoldable pub taken : ℕ → TextureAspect → List Part
 taken format asked = cond (is_depth_or_stencil format) (named (format_of format) asked) (format_of format).parts
@@ -153,7 +153,7 @@ bytes_of_one (p ∷ q ∷ ps) = 0
 unfoldable pub block_bytes : ℕ → TextureAspect → ℕ
 block_bytes format asked = bytes_of_one (taken format asked)
 
--- the offset is a multiple of 4 for depth_or_stencil, else of the block's bytes; bytes per row, where given, of 256
+-- the offset is a multiple of 4 for depth-or-stencil, else of the block's bytes; bytes per row, where given, of 256
 pub record AlignedLayout (format : ℕ) (aspect : TextureAspect) (layout : TexelCopyBufferLayout) : Type 0 where
   pub depth_stencil : is_depth_or_stencil format ≡ true → layout.offset % 4 ≡ 0
   pub other : is_depth_or_stencil format ≡ false → layout.offset % block_bytes format aspect ≡ 0

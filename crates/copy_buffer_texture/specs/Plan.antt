@@ -43,7 +43,7 @@ aspects c = chosen_aspects c.texture.format c.view.aspect
 abbrev pub dense : Copy → Dense
 dense c = dense_of c.texture.format c.view.aspect c.size
 
--- a depth_stencil format without the fact
+-- a depth-stencil format without the fact
 unfoldable pub lacks_depth_fact : Device → ℕ → Bool
 lacks_depth_fact device format = is_depth_stencil format && not device.depth_texture_and_buffer_copies
 

@@ -36,7 +36,7 @@ color width height bytes s =
       plane_1 = none;
     }
 
--- a depth_stencil format: its aspects, and the bytes of each
+-- a depth-stencil format: its aspects, and the bytes of each
 abbrev pub depth_stencil : ℕ → ℕ → ℕ → FormatRow
 depth_stencil aspects depth stencil =
     record {
@@ -86,9 +86,9 @@ formats =
     ∷ depth_stencil STENCIL none 1  -- 15 stencil8
     ∷ depth_stencil DEPTH 2 none  -- 16 depth16unorm
     ∷ depth_stencil DEPTH none none  -- 17 depth24plus
-    ∷ depth_stencil DEPTH_STENCIL none 1  -- 18 depth24plus_stencil8
+    ∷ depth_stencil DEPTH_STENCIL none 1  -- 18 depth24plus-stencil8
     ∷ depth_stencil DEPTH 4 none  -- 19 depth32float
-    ∷ depth_stencil DEPTH_STENCIL 4 1  -- 20 depth32float_stencil8
+    ∷ depth_stencil DEPTH_STENCIL 4 1  -- 20 depth32float-stencil8
     ∷ planar PLANES 1 2  -- 21 NV12
     ∷ []
 

@@ -3,7 +3,7 @@
 ghost use Rattle.std.specs.Prelude.{◌≡◌, true, ◌≤◌, ◌<◌};
 ghost use Rattle.flags.specs.FormatAspects.{COLOR};
 ghost use Rattle.measures.specs.Measure.{or_else};
-ghost use Rattle.formats.specs.Table.{color as colorRow, depth_stencil, planar as planarRow, format_row, is_format, block_dimensions, aspects_of, is_depth_stencil, is_combined_depth_stencil, remove_srgb, is_multi_planar};
+ghost use Rattle.formats.specs.Table.{color as color_row, depth_stencil, planar as planar_row, format_row, is_format, block_dimensions, aspects_of, is_depth_stencil, is_combined_depth_stencil, remove_srgb, is_multi_planar};
 ghost use Rattle.formats.specs.Aspects.{aspect_of, asked_of, chosen_aspects, bytes_of, block_copy_size, plane_format, aspect_specific_format, subsampling_factor};
 ghost use Rattle.formats.specs.Laws.{EveryFormat, max_block_side};
 
@@ -62,7 +62,7 @@ pub struct FormatRow {
 }
 
 fn color(block_width: u32, block_height: u32, bytes: u32, srgb: u32) -> FormatRow
-    ensures { result ≡ colorRow block_width block_height bytes srgb }
+    ensures { result ≡ color_row block_width block_height bytes srgb }
 {
     FormatRow {
         block_width,
@@ -94,7 +94,7 @@ fn depth_stencil(aspects: FormatAspects, depth: u32, stencil: u32) -> FormatRow
 }
 
 fn planar(aspects: FormatAspects, plane_0: u32, plane_1: u32) -> FormatRow
-    ensures { result ≡ planarRow aspects.0 plane_0 plane_1 }
+    ensures { result ≡ planar_row aspects.0 plane_0 plane_1 }
 {
     FormatRow {
         block_width: 1,

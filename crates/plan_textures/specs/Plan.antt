@@ -19,7 +19,7 @@ use Rattle.plan_textures.specs.declared.TexturePlan.{TexturePlan}
 unfoldable pub lesser : CopyExtent → CopyExtent → CopyExtent
 lesser a b = record { width = lesser_of a.width b.width; height = lesser_of a.height b.height; depth = min a.depth b.depth }
 
--- a combined depth_stencil format is copied as depth, then stencil; a planar one as plane 0, then plane 1
+-- a combined depth-stencil format is copied as depth, then stencil; a planar one as plane 0, then plane 1
 unfoldable pub parts_of : ℕ → CopyParts
 parts_of format =
     stop_if (is_combined_depth_stencil format) DepthStencil $

@@ -50,7 +50,7 @@ dimension_checks of d start size limit exact =
     ∷ refuse_if (overruns start.0 size.0 limit.0) (texture_overrun of.side d start.0 size.0 limit.0)  -- 9
     ∷ []
 
--- X and Y of a depth_stencil or multisampled texture are copied whole
+-- X and Y of a depth-stencil or multisampled texture are copied whole
 unfoldable pub requires_exact : Texture → Bool
 requires_exact t = is_depth_stencil t.format || nat_lt 1 t.sample_count
 

@@ -22,21 +22,21 @@ is_depth_only Plane0 = false
 is_depth_only Plane1 = false
 is_depth_only Plane2 = false
 
--- where the texture is read: depth24plus; the depth of depth24plus_stencil8
+-- where the texture is read: depth24plus; the depth of depth24plus-stencil8
 unfoldable pub src_format_checks : ℕ → TextureAspect → Checks
 src_format_checks format aspect =
     refuse_if (eqb format depth24plus) (E.CopyFromForbiddenTextureFormat format)  -- 29
     ∷ refuse_if (eqb format depth24plus_stencil8 && is_depth_only aspect) (E.CopyFromForbiddenTextureFormatAspect format aspect)  -- 30
     ∷ []
 
--- where it is written: depth24plus and depth32float; the depth of depth24plus_stencil8 and depth32float_stencil8
+-- where it is written: depth24plus and depth32float; the depth of depth24plus-stencil8 and depth32float-stencil8
 unfoldable pub dst_format_checks : ℕ → TextureAspect → Checks
 dst_format_checks format aspect =
     refuse_if (eqb format depth24plus || eqb format depth32float) (E.CopyToForbiddenTextureFormat format)  -- 31
     ∷ refuse_if ((eqb format depth24plus_stencil8 || eqb format depth32float_stencil8) && is_depth_only aspect) (E.CopyToForbiddenTextureFormatAspect format aspect)  -- 32
     ∷ []
 
--- an offset is a multiple of 4 for depth_stencil, else of the block bytes
+-- an offset is a multiple of 4 for depth-stencil, else of the block bytes
 unfoldable pub offset_alignment : ℕ → TextureAspect → ℕ
 offset_alignment format aspect = pick (is_depth_stencil format) 4 (or_else (block_copy_size format aspect) 1)
 

@@ -1,7 +1,7 @@
 #![tactic(auto)]
 // The bytes that a copy takes in a buffer, or in memory: `validate_linear_texture_data` of command/transfer.rs.
 ghost use Rattle.std.specs.Prelude.{◌≡◌, ◌+◌, ◌*◌, ◌≤◌};
-ghost use Rattle.rule_linear_data.specs.Linear.{is_below, lacks, stacked as stackedOf, several_rows, several_images, is_contiguous_copy, data_of, row_stride_of, image_rows_of, block_bytes, dense_of, linear_checked};
+ghost use Rattle.rule_linear_data.specs.Linear.{is_below, lacks, stacked as stacked_of, several_rows, several_images, is_contiguous_copy, data_of, row_stride_of, image_rows_of, block_bytes, dense_of, linear_checked};
 ghost use Rattle.rule_linear_data.specs.Stages.{fitting, placed, measured, linear_staged};
 ghost use Rattle.formats.specs.Laws.{max_block_bytes};
 ghost use Rattle.rule_linear_data.specs.Laws.{EveryLinear};
@@ -71,7 +71,7 @@ fn plus(a: u64, b: u64) -> CheckedU64
 
 // A stride for each item but the last, and the last.
 fn stacked(items: u64, stride: u64, last: u64) -> CheckedU64
-    ensures { result ≡ fitting (stackedOf items stride last) }
+    ensures { result ≡ fitting (stacked_of items stride last) }
 {
     if items == 0 {
         return CheckedU64::Fits(0);
