@@ -4,8 +4,9 @@
 usage: python3 tools/respell.py [--list] [FOLDER]
 
 A name that is declared in specs/ or proofs/ of a crate, and has a capital after a small first letter or a dash, gets underscores instead, there
-and wherever it stands as a whole word: in .antt files, in the clauses and imports of .rt files, in must-fail edits and in claims.txt. Functions of
-src/, types, modules, strings, and names that the check makes (loop-.., tie parts) stay. --list prints the names without a change.
+and wherever it stands as a whole word: in .antt files, comments too, in .rt files but for lines with a quote, and in claims.txt. Functions of src/,
+types, modules, and names that the check makes (loop-.., tie parts) stay. Must-fail edits and documents are not touched. --list prints the names
+that fall together, without a change.
 """
 
 import glob
