@@ -2,21 +2,12 @@
 // Copies between buffers, for callers in C and Rust. A crate of its own, so that its archive holds one copy function, into
 // which the compiler puts every rule.
 ghost use Rattle.std.specs.Prelude.{◌≡◌};
-ghost use Rattle.conditions.specs.Conditions.{pick};
 ghost use Rattle.c_words.specs.Words.{buffers_number, buffers_plan, buffers_ranges};
 ghost use Rattle.c_buffers.specs.Answer.{answer};
 
-use copy_buffers::BufferPlanned;
+use plan_buffers::BufferPlan;
 use records::Device;
-
-fn other_index(same: bool) -> u32
-    ensures { result ≡ pick same 0 1 }
-{
-    if same {
-        return 0;
-    }
-    1
-}
+use refusals::TransferError;
 
 #[tactic(auto, unfolding(crate::specs::Answer::answer))]
 fn plan_copy(
@@ -30,7 +21,7 @@ fn plan_copy(
     dst_offset: u64,
     has_size: bool,
     size: u64,
-) -> BufferPlanned
+) -> Result<BufferPlan, TransferError>
     ensures { result ≡ answer unrestricted_index_buffer same_buffer src_size src_usage src_offset dst_size dst_usage dst_offset has_size size }
 {
     let device = Device {
@@ -39,8 +30,8 @@ fn plan_copy(
     };
     let src = c_records::buffer_from(src_size, src_usage);
     let dst = c_records::buffer_from(dst_size, dst_usage);
-    let bytes = c_records::given_size(has_size, size);
-    let dst_index = other_index(same_buffer);
+    let bytes = c_records::given(has_size, size);
+    let dst_index = c_records::dst_index(same_buffer);
     copy_buffers::copy_buffer_to_buffer(
         device, 0, src, src_offset, dst_index, dst, dst_offset, bytes,
     )
@@ -78,5 +69,5 @@ pub extern "C" fn copy_planner_buffer_to_buffer(
         has_size,
         size,
     );
-    c_words::put_buffers(planned, plan, ranges)
+    c_words::put(planned, plan, ranges)
 }

@@ -1,16 +1,16 @@
 -- What a caller in another language is answered for a copy from a texture into a buffer: the answer of `texture_to_buffer`.
-use Rattle.std.specs.Prelude.{ℕ, Bool, List, [], ◌∷◌}
+use Rattle.std.specs.Prelude.{ℕ, Bool, List, [], ◌∷◌, Result}
 use Rattle.refusals.specs.Order.{decided}
-use Rattle.copy_buffer_texture.specs.declared.BufferTexturePlanned.{BufferTexturePlanned}
-use Rattle.copy_buffer_texture.specs.declared.BufferTexturePlanned.TheVariants.{Refused}
 use Rattle.copy_buffer_texture.specs.Plan.{texture_to_buffer}
 use Rattle.c_records.specs.CRecords.{buffer_from, layout_from, texture_from, view_from, size_from, device_with, aspect_check}
+use Rattle.plan_buffer_texture.specs.declared.BufferTexturePlan.{BufferTexturePlan}
+use Rattle.refusals.specs.declared.TransferError.{TransferError}
 
-abbrev pub known : Bool → ℕ → ℕ → ℕ → Bool → ℕ → Bool → ℕ → List ℕ → List ℕ → List ℕ → BufferTexturePlanned
+abbrev pub known : Bool → ℕ → ℕ → ℕ → Bool → ℕ → Bool → ℕ → List ℕ → List ℕ → List ℕ → Result BufferTexturePlan TransferError
 known depth bufferSize bufferUsage offset hasBytes bytes hasRows rows t v s =
     texture_to_buffer (device_with depth) (texture_from t) (view_from v) (buffer_from bufferSize bufferUsage) (layout_from offset hasBytes bytes hasRows rows) (size_from s)
 
 -- the aspect before all else
-unfoldable pub answer : Bool → ℕ → ℕ → ℕ → Bool → ℕ → Bool → ℕ → List ℕ → List ℕ → List ℕ → BufferTexturePlanned
+unfoldable pub answer : Bool → ℕ → ℕ → ℕ → Bool → ℕ → Bool → ℕ → List ℕ → List ℕ → List ℕ → Result BufferTexturePlan TransferError
 answer depth bufferSize bufferUsage offset hasBytes bytes hasRows rows t v s =
-    decided (aspect_check t v ∷ []) Refused (known depth bufferSize bufferUsage offset hasBytes bytes hasRows rows t v s)  -- 12
+    decided (aspect_check t v ∷ []) (known depth bufferSize bufferUsage offset hasBytes bytes hasRows rows t v s)  -- 12

@@ -2,18 +2,16 @@
 -- Assumes nothing.
 use mathlib.Core.Path.{◌≡◌, refl, sym, ap, ◌∙◌}
 use mathlib.Core.Bool.{Bool, true, false}
-use mathlib.Core.List.{List, [], ◌∷◌, ◌++◌, append-nil}
-use Prim.Native.Nat.{ℕ, ◌+◌, ◌-◌, ◌^◌, ◌≤◌, ◌<◌, min}
+use mathlib.Core.List.{List, ◌++◌, append-nil}
+use Prim.Native.Nat.{ℕ, ◌+◌, ◌-◌, ◌^◌, ◌≤◌, ◌<◌}
 use native.Mathlib.Omega.{arith}
-use native.Mathlib.Nat.{min-eq_left, min-eq_right, zero-add}
+use native.Mathlib.Nat.{pos_of_ne-zero, min-eq_left, min-eq_right}
 use borrow.Author.Tests.{leb-true, leb-false}
 use lib.Dec.{leb}
 use lib.ListN.{length, take, length-append}
-use lib.Seq.{sets, length-sets, take_all, take-nil, take-append-le, take-append-add, length-take-le}
-use Rattle.slices.specs.Put.{Put}
+use lib.Seq.{sets, length-sets, take_all, take-append-le, take-append-add}
 use Rattle.slices.proofs.Puts.{sets_append, put_take, put_length}
-use Rattle.sheet_listing.specs.Listing.{Fills, Ends}
-use Rattle.sheet_listing.proofs.Whole.{take_least}
+use Rattle.sheet_listing.specs.Listing.{Fills}
 use Rattle.c_listing.specs.Lists.{counted, front_put, Lists}
 
 -- ---- the front of a text
@@ -64,54 +62,25 @@ front_counted l p t h = go (leb p (2 ^ 64 - 1)) refl
         let y : length l - p ≡ 0 = omega arith in
         rw (z, y) refl
 
-counted_few : (n : ℕ) → n < 2 ^ 64 → counted n ≡ n
-counted_few n h = min-eq_left (omega arith)
-
 counted_on : (n m : ℕ) → counted (counted n + m) ≡ counted (n + m)
-counted_on n m = go (leb n (2 ^ 64 - 1)) refl
-  where
-    go : (b : Bool) → leb n (2 ^ 64 - 1) ≡ b → counted (counted n + m) ≡ counted (n + m)
-    go true e = ap (λ (k : ℕ). counted (k + m)) (min-eq_left (leb-true _ _ e))
-    go false e =
-        let o : 2 ^ 64 - 1 < n = leb-false _ _ e in
-        let c : counted n ≡ 2 ^ 64 - 1 = min-eq_right (omega arith) in
-        ap (λ (k : ℕ). counted (k + m)) c ∙ min-eq_right (omega arith) ∙ sym (min-eq_right (omega arith))
+counted_on n m = omega arith
 
 -- ---- one part
 
-pub behind_few : (at n r : ℕ) → r ≡ at + n → at + n < 2 ^ 64 → r ≡ counted (at + n)
-behind_few at n r e h = e ∙ sym (counted_few (at + n) h)
-
-pub behind_many : (at n : ℕ) → 2 ^ 64 ≤ at + n → 2 ^ 64 - 1 ≡ counted (at + n)
-behind_many at n h = sym (min-eq_right (omega arith))
-
-pub front_none : (l : List ℕ) (at : ℕ) (t : List ℕ) → length l ≤ at → l ≡ front_put l at t
-front_none l at t h = let z : length l - at ≡ 0 = omega arith in rw z refl
-
-pub front_some : (l m t : List ℕ) (at n r : ℕ) → n ≡ min (length l - at) (length t) → Put l m at (take n t) r → m ≡ front_put l at t
-front_some l m t at n r is put = put.numbers ∙ ap (λ (x : List ℕ). sets l at x) (take_least (length l - at) t n is)
-
-pub least_fits : (k n : ℕ) (t : List ℕ) → n ≡ min k (length t) → n ≡ length (take n t)
-least_fits k n t is = sym (length-take-le n t (omega (arith, is)))
-
-pub least_room : (l t : List ℕ) (at n : ℕ) → at < length l → n ≡ min (length l - at) (length t) → at + length (take n t) ≤ length l
-least_room l t at n h is = omega (arith, is, least_fits (length l - at) n t is)
-
 pub lists :
     (part filled l m before after : List ℕ) (at count next : ℕ) → length part ≡ 16384
-    → Fills part filled count before after → count ≤ length filled → Ends (length part) count before
+    → Fills part filled count before after → count ≤ length filled → (count ≡ 0 → ⊥)
     → next ≡ counted (at + length (take count filled)) → m ≡ front_put l at (take count filled)
-    → Lists l m at before after count next
-lists part filled l m before after at count next room f h e n b =
+    → Lists l m at before after next
+lists part filled l m before after at count next room f h some n b =
     let k : 0 + length f.text ≤ length part = omega (arith, f.put.next, put_length f.put) in
     let t : take count filled ≡ f.text = put_take f.put k in
     record {
       text = f.text;
       left = f.left;
-      counts = f.put.next ∙ omega arith;
+      some = omega (arith, f.put.next, pos_of_ne-zero some);
       bytes = b ∙ ap (front_put l at) t;
       behind = n ∙ ap (λ (x : List ℕ). counted (at + length x)) t;
-      ends = e (omega arith);
     }
 
 -- ---- all parts: finishing from here gives what the whole gives
@@ -122,10 +91,7 @@ pub record Putting (whole first left l : List ℕ) (at : ℕ) : Type 0 where
   pub text : front_put l at left ≡ front_put first 0 whole
   pub count : counted (at + length left) ≡ counted (length whole)
 
-pub putting_starts : (whole left l : List ℕ) → left ≡ whole → Putting whole l left l 0
-putting_starts whole left l e = rw e (record { few = omega arith; same = refl; text = refl; count = ap counted (zero-add (length whole)) })
-
-module _ {whole first left l : List ℕ} {at : ℕ} (c : Putting whole first left l at) {after m : List ℕ} {count next : ℕ} (p : Lists l m at left after count next) where
+module _ {whole first left l : List ℕ} {at : ℕ} (c : Putting whole first left l at) {after m : List ℕ} {next : ℕ} (p : Lists l m at left after next) where
   pub putting_on : length l < 2 ^ 64 → Putting whole first after m next
   putting_on h =
       let t = p.text in
@@ -146,21 +112,3 @@ module _ {whole first left l : List ℕ} {at : ℕ} (c : Putting whole first lef
             ∙ ap counted (omega (arith, ap length p.left, length-append t after))
             ∙ c.count;
       }
-
-  pub putting_same : length m ≡ length first
-  putting_same = ap length p.bytes ∙ length-sets l at (take (length l - at) p.text) ∙ c.same
-
-  pub putting_ends : count ≡ 0 → (at ≡ counted (length whole)) × (m ≡ front_put first 0 whole)
-  putting_ends z =
-      let none = p.ends z in
-      let n : at + length left ≡ at = ap (λ (x : List ℕ). at + length x) none ∙ omega arith in
-      let put-nothing : front_put l at [] ≡ l = ap (λ (x : List ℕ). sets l at x) (take-nil (length l - at)) in
-      let same_bytes : m ≡ l = p.bytes ∙ ap (front_put l at) (nothing p.text (sym p.counts ∙ z)) ∙ put-nothing in
-      (sym (counted_few at c.few) ∙ sym (ap counted n) ∙ c.count, same_bytes ∙ sym put-nothing ∙ sym (ap (front_put l at) none) ∙ c.text)
-    where
-      nothing : (t : List ℕ) → length t ≡ 0 → t ≡ []
-      nothing [] e = refl
-      nothing (x ∷ t) e = absurd (omega arith)
-
-  pub putting_less : (count ≡ 0 → ⊥) → length after < length left
-  putting_less n = omega (arith, ap length p.left, length-append p.text after, p.counts)

@@ -1,32 +1,16 @@
 #![tactic(auto)]
 // The listing of a job sheet, for callers in C and Rust.
-ghost use Rattle.std.specs.Prelude.{◌≡◌, ◌+◌, ◌-◌, ◌≤◌, min, length};
+ghost use Rattle.std.specs.Prelude.{◌≡◌, ◌+◌, length, MatchOption};
 ghost use Rattle.sheet_listing.specs.Listing.{rest_of, listing_of};
-ghost use Rattle.c_listing.specs.Lists.{counted, front_put, Lists};
+ghost use Rattle.c_listing.specs.Lists.{counted, front_put, Lists, Ended};
 
 use sheet_listing::Listing;
 
-// How many bytes a part had, where the next one belongs, and the state after it.
+// Where the part after this one belongs, and the state after it.
 #[derive(Clone, Copy)]
 pub struct Listed {
-    pub count: usize,
     pub next: usize,
     pub listing: Listing,
-}
-
-fn lesser(a: usize, b: usize) -> usize
-    ensures { result ≡ min a b }
-{
-    if a < b { a } else { b }
-}
-
-fn place_behind(at: usize, n: usize) -> usize
-    ensures { result ≡ counted (at + n) }
-{
-    if n > usize::MAX - at {
-        return usize::MAX;
-    }
-    at + n
 }
 
 // As much of a text as there is room for after a place; answers the place after the whole text.
@@ -34,28 +18,30 @@ fn put_front(out: &mut [u8], at: usize, text: &[u8]) -> usize
     ensures value { result ≡ counted (at + length text.now) }
     ensures out_after { out.new ≡ front_put out.old at text.now }
 {
-    let next = place_behind(at, text.len());
+    let next = at.saturating_add(text.len());
     if at >= out.len() {
         return next;
     }
-    let n = lesser(out.len() - at, text.len());
+    let n = text.len().min(out.len() - at);
     sheet_text::put_bytes(out, at, &text[..n]);
     next
 }
 
-fn list_part(st: Listing, s: &[u8], out: &mut [u8], at: usize) -> Listed
-    ensures { Lists out.old out.new at (rest_of s.now st) (rest_of s.now result.listing) result.count result.next }
+// The next part of what is left; `None` where nothing is.
+fn list_part(st: Listing, s: &[u8], out: &mut [u8], at: usize) -> Option<Listed>
+    ensures { MatchOption result (Ended out.old out.new (rest_of s.now st)) (λ listed. Lists out.old out.new at (rest_of s.now st) (rest_of s.now listed.listing) listed.next) }
 {
     let mut part = [0u8; 16384];
     let filled = sheet_listing::fill(st, s, &mut part);
     let count = filled.count;
-    let listing = filled.listing;
-    let next = put_front(out, at, &part[..count]);
-    Listed {
-        count,
-        next,
-        listing,
+    if count == 0 {
+        return None;
     }
+    let next = put_front(out, at, &part[..count]);
+    Some(Listed {
+        next,
+        listing: filled.listing,
+    })
 }
 
 // As much of a sheet's listing as there is room for; answers the length of the whole listing. Nothing after it changes.
@@ -66,13 +52,9 @@ pub extern "C" fn copy_planner_list(sheet: &[u8], out: &mut [u8]) -> usize
 {
     let mut st = sheet_listing::start(sheet);
     let mut at: usize = 0;
-    loop {
-        let listed = list_part(st, sheet, out, at);
-        if listed.count == 0 {
-            return at;
-        }
-        let next = listed.listing;
+    while let Some(listed) = list_part(st, sheet, out, at) {
         at = listed.next;
-        st = next;
+        st = listed.listing;
     }
+    at
 }

@@ -3,43 +3,10 @@
 // which the compiler puts every rule.
 ghost use Rattle.std.specs.Prelude.{◌≡◌};
 ghost use Rattle.c_words.specs.Words.{copy_number, copy_plan, copy_ranges_of};
-ghost use Rattle.c_memory_uploads.specs.Answer.{known, answer};
+ghost use Rattle.c_memory_uploads.specs.Answer.{answer};
 
-use copy_buffer_texture::BufferTexturePlanned;
-use formats::TextureAspect;
-use records::Device;
+use plan_buffer_texture::BufferTexturePlan;
 use refusals::TransferError;
-
-fn plan_known(
-    depth_texture_and_buffer_copies: bool,
-    length: u64,
-    offset: u64,
-    has_bytes_per_row: bool,
-    bytes_per_row: u32,
-    has_rows_per_image: bool,
-    rows_per_image: u32,
-    texture: &[u32; 8],
-    view: &[u32; 5],
-    size: &[u32; 3],
-) -> BufferTexturePlanned
-    ensures { result ≡ known depth_texture_and_buffer_copies length offset has_bytes_per_row bytes_per_row has_rows_per_image rows_per_image texture.now view.now size.now }
-{
-    let device = Device {
-        depth_texture_and_buffer_copies,
-        unrestricted_index_buffer: false,
-    };
-    let layout = c_records::layout_from(
-        offset,
-        has_bytes_per_row,
-        bytes_per_row,
-        has_rows_per_image,
-        rows_per_image,
-    );
-    let t = c_records::texture_from(texture);
-    let v = c_records::view_from(view);
-    let s = c_records::size_from(size);
-    copy_buffer_texture::copy_memory_to_texture(device, length, layout, t, v, s)
-}
 
 fn plan_copy(
     depth_texture_and_buffer_copies: bool,
@@ -52,27 +19,22 @@ fn plan_copy(
     texture: &[u32; 8],
     view: &[u32; 5],
     size: &[u32; 3],
-) -> BufferTexturePlanned
+) -> Result<BufferTexturePlan, TransferError>
     ensures { result ≡ answer depth_texture_and_buffer_copies length offset has_bytes_per_row bytes_per_row has_rows_per_image rows_per_image texture.now view.now size.now }
 {
-    if view[4] > formats::LAST_ASPECT {
-        return BufferTexturePlanned::Refused(TransferError::InvalidTextureAspect {
-            format: texture[0],
-            aspect: TextureAspect::Plane2,
-        });
-    }
-    plan_known(
-        depth_texture_and_buffer_copies,
-        length,
+    c_records::check_aspect(texture, view)?;
+    let device = c_records::device_with(depth_texture_and_buffer_copies);
+    let layout = c_records::layout_from(
         offset,
         has_bytes_per_row,
         bytes_per_row,
         has_rows_per_image,
         rows_per_image,
-        texture,
-        view,
-        size,
-    )
+    );
+    let t = c_records::texture_from(texture);
+    let v = c_records::view_from(view);
+    let s = c_records::size_from(size);
+    copy_buffer_texture::copy_memory_to_texture(device, length, layout, t, v, s)
 }
 
 // 0 for an accepted copy, else the number of its refusal; its plan and its ranges, or the refusal's details.
@@ -107,5 +69,5 @@ pub extern "C" fn copy_planner_memory_to_texture(
         view,
         size,
     );
-    c_words::put_copy(planned, plan, ranges)
+    c_words::put(planned, plan, ranges)
 }

@@ -1,5 +1,6 @@
 -- A plan's words give the plan without its ranges, which has the same regions.
 -- Assumes nothing.
+use Rattle.std.specs.Prelude.{Option, Some, None}
 use Prim.{tt}
 use mathlib.Core.Path.{◌≡◌, refl}
 use mathlib.Core.Bool.{Bool, true, false}
@@ -10,8 +11,6 @@ use native.Mathlib.Nat.{mod-eq_of_lt}
 use borrow.Author.Tests.{ne_eqb}
 use lib.Dec.{eqb}
 use Rattle.conditions.specs.Conditions.{stop_if}
-use Rattle.measures.specs.declared.OptionU32.{OptionU32}
-use Rattle.measures.specs.declared.OptionU32.TheVariants.{Given, Absent}
 use Rattle.rule_copy_range.specs.declared.CopyExtent.{CopyExtent}
 use Rattle.rule_selectors.specs.declared.TextureCopyBase.{TextureCopyBase}
 use Rattle.plan_rows.specs.Rows.{or_absent, base_numbers, size_numbers, buffer_texture_copy_numbers}
@@ -19,7 +18,6 @@ use Rattle.plan_buffers.specs.Asking as K
 use Rattle.plan_buffer_texture.specs.Asking as L
 use Rattle.plan_textures.specs.declared.CopyParts.{CopyParts}
 use Rattle.plan_textures.specs.declared.CopyParts.TheVariants.{Whole, DepthStencil, Planes}
-use Rattle.plan_textures.specs.declared.TextureRanges.TheVariants as X
 use Rattle.plan_kinds.specs.declared.Plan.{Plan}
 use Rattle.plan_kinds.specs.declared.Plan.TheVariants.{Buffers, BufferTexture, Textures}
 use Rattle.plan_kinds.specs.Regions.{left_of, region_numbers, behind_of, regions_from, regions_left}
@@ -33,12 +31,12 @@ use Rattle.c_plans.specs.Laws.{without_ranges, read_back, Narrow, given_numbers,
 low_is : (n : ℕ) → n < 2 ^ 32 → low n ≡ n
 low_is n h = mod-eq_of_lt h
 
-option_back : (o : OptionU32) → Narrow (given_numbers o) → option_from (or_absent o) ≡ o
+option_back : (o : Option ℕ) → Narrow (given_numbers o) → option_from (or_absent o) ≡ o
 unfolding option_from or_absent
-option_back (Given n) h =
+option_back (Some n) h =
     let no : n ≡ 2 ^ 64 - 1 → ⊥ = λ e. omega (arith, e, h.0) in
     rw (ne_eqb n (2 ^ 64 - 1) no, low_is n h.0)
-option_back Absent h = refl
+option_back None h = refl
 
 parts_back : (parts : CopyParts) → parts_from (parts_number parts) ≡ parts
 unfolding parts_from parts_number
@@ -94,7 +92,7 @@ numbers_bare (BufferTexture p) = by (eqb p.left 0) refl
     by : (t : Bool) → eqb p.left 0 ≡ t → region_numbers (without_ranges (BufferTexture p)) ≡ region_numbers (BufferTexture p)
     by true e = rw e
     by false e = rw e
-numbers_bare (Textures p) = numbers_with X.Absent p
+numbers_bare (Textures p) = numbers_with None p
 
 behind_bare : (p : Plan) → behind_of (without_ranges p) ≡ without_ranges (behind_of p)
 unfolding behind_of without_ranges K.next_of L.next_of K.advanced L.advanced stop_if
@@ -108,7 +106,7 @@ behind_bare (BufferTexture p) = by (eqb p.left 0) refl
     by : (t : Bool) → eqb p.left 0 ≡ t → behind_of (without_ranges (BufferTexture p)) ≡ without_ranges (behind_of (BufferTexture p))
     by true e = rw e
     by false e = rw e
-behind_bare (Textures p) = behind_with X.Absent p
+behind_bare (Textures p) = behind_with None p
 
 regions_bare : (n : ℕ) (p : Plan) → regions_from n (without_ranges p) ≡ regions_from n p
 unfolding regions_from

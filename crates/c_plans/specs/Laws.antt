@@ -1,13 +1,8 @@
 -- What the words of a plan keep of it: all but its ranges, and so its regions.
 use Prim.{Unit}
-use Rattle.std.specs.Prelude.{ℕ, ◌^◌, ◌<◌, ◌≡◌, List, [], ◌∷◌, ◌++◌}
-use Rattle.measures.specs.declared.OptionU32.{OptionU32}
-use Rattle.measures.specs.declared.OptionU32.TheVariants.{Given, Absent}
-use Rattle.rule_init_ranges.specs.declared.OptionRange.TheVariants as O
+use Rattle.std.specs.Prelude.{ℕ, ◌^◌, ◌<◌, ◌≡◌, List, [], ◌∷◌, ◌++◌, Option, Some, None}
 use Rattle.plan_buffers.specs.declared.BufferPlan.{BufferPlan}
 use Rattle.plan_buffer_texture.specs.declared.BufferTexturePlan.{BufferTexturePlan}
-use Rattle.plan_buffer_texture.specs.declared.CopyRanges.TheVariants as C
-use Rattle.plan_textures.specs.declared.TextureRanges.TheVariants as X
 use Rattle.plan_rows.specs.Rows.{base_numbers, size_numbers}
 use Rattle.plan_kinds.specs.declared.Plan.{Plan}
 use Rattle.plan_kinds.specs.declared.Plan.TheVariants.{Buffers, BufferTexture, Textures}
@@ -19,16 +14,16 @@ use Rattle.c_plans.specs.PlanWords.{buffers_from, buffer_texture_from, textures_
 
 abbrev pub bare_buffers : BufferPlan → BufferPlan
 bare_buffers p =
-    record { region = p.region; left = p.left; dst_range = O.Absent; src_range = O.Absent; bytes_checked = p.bytes_checked }
+    record { region = p.region; left = p.left; dst_range = None; src_range = None; bytes_checked = p.bytes_checked }
 
 abbrev pub bare_buffer_texture : BufferTexturePlan → BufferTexturePlan
 bare_buffer_texture p =
-    record { region = p.region; stride = p.stride; left = p.left; ranges = C.Absent; bytes_checked = p.bytes_checked }
+    record { region = p.region; stride = p.stride; left = p.left; ranges = None; bytes_checked = p.bytes_checked }
 
 unfoldable pub without_ranges : Plan → Plan
 without_ranges (Buffers p) = Buffers (bare_buffers p)
 without_ranges (BufferTexture p) = BufferTexture (bare_buffer_texture p)
-without_ranges (Textures p) = Textures (textures_with X.Absent p)
+without_ranges (Textures p) = Textures (textures_with None p)
 
 -- ---- the plan that its words give
 
@@ -43,9 +38,9 @@ abbrev pub Narrow : List ℕ → Type 0
 Narrow [] = Unit {0}
 Narrow (n ∷ ns) = (n < 2 ^ 32) × Narrow ns
 
-abbrev pub given_numbers : OptionU32 → List ℕ
-given_numbers (Given n) = n ∷ []
-given_numbers Absent = []
+abbrev pub given_numbers : Option ℕ → List ℕ
+given_numbers (Some n) = n ∷ []
+given_numbers None = []
 
 -- the numbers that have 32 bits
 unfoldable pub narrow_numbers : Plan → List ℕ

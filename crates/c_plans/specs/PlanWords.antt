@@ -1,27 +1,22 @@
 -- Plans from their words (`buffer_words`, `buffer_texture_words`, `texture_words`), which leave the ranges out.
-use Rattle.std.specs.Prelude.{ℕ, ◌-◌, ◌%◌, ◌^◌, List, eqb, get_or}
+use Rattle.std.specs.Prelude.{ℕ, ◌-◌, ◌%◌, ◌^◌, List, eqb, get_or, Option, Some, None}
 use Rattle.conditions.specs.Conditions.{pick}
-use Rattle.measures.specs.declared.OptionU32.{OptionU32}
-use Rattle.measures.specs.declared.OptionU32.TheVariants.{Given, Absent}
 use Rattle.measures.specs.Measure.{texels}
 use Rattle.rule_copy_range.specs.declared.CopyExtent.{CopyExtent}
 use Rattle.rule_selectors.specs.declared.TextureCopyBase.{TextureCopyBase}
-use Rattle.rule_init_ranges.specs.declared.OptionRange.TheVariants as O
 use Rattle.plan_buffers.specs.declared.BufferPlan.{BufferPlan}
 use Rattle.plan_buffer_texture.specs.declared.BufferTexturePlan.{BufferTexturePlan}
-use Rattle.plan_buffer_texture.specs.declared.CopyRanges.TheVariants as C
 use Rattle.plan_textures.specs.declared.CopyParts.{CopyParts}
 use Rattle.plan_textures.specs.declared.CopyParts.TheVariants.{Whole, DepthStencil, Planes}
 use Rattle.plan_textures.specs.declared.TexturePlan.{TexturePlan}
-use Rattle.plan_textures.specs.declared.TextureRanges.TheVariants as X
 
 -- a number of 32 bits; a plan's word of one has no more
 abbrev pub low : ℕ → ℕ
 low word = word % 2 ^ 32
 
 -- the last number of 64 bits stands for an absent value
-unfoldable pub option_from : ℕ → OptionU32
-option_from word = pick (eqb word (2 ^ 64 - 1)) Absent (Given (low word))
+unfoldable pub option_from : ℕ → Option ℕ
+option_from word = pick (eqb word (2 ^ 64 - 1)) None (Some (low word))
 
 unfoldable pub parts_from : ℕ → CopyParts
 parts_from word = pick (eqb word 0) Whole (pick (eqb word 1) DepthStencil Planes)
@@ -44,8 +39,8 @@ buffers_from w =
     record {
       region = record { src_offset = get_or w 2 0; dst_offset = get_or w 3 0; size = get_or w 4 0 };
       left = low (get_or w 0 0);
-      dst_range = O.Absent;
-      src_range = O.Absent;
+      dst_range = None;
+      src_range = None;
       bytes_checked = get_or w 1 0;
     }
 
@@ -62,7 +57,7 @@ buffer_texture_from w =
           };
       stride = get_or w 2 0;
       left = low (get_or w 0 0);
-      ranges = C.Absent;
+      ranges = None;
       bytes_checked = get_or w 1 0;
     }
 
@@ -75,5 +70,5 @@ textures_from w =
       parts = parts_from (get_or w 1 0);
       part = low (get_or w 2 0);
       left = low (get_or w 0 0);
-      ranges = X.Absent;
+      ranges = None;
     }

@@ -5,16 +5,15 @@ ghost use Rattle.c_plans.specs.Laws.{EveryPlan};
 ghost use Rattle.c_plans.specs.PlanWords.{low, option_from, parts_from, base_from, extent_from, buffers_from, buffer_texture_from, textures_from};
 
 use flags::FormatAspects;
-use measures::{OptionU32, Origin3d, Texels};
-use plan_buffer_texture::{BufferTextureCopy, BufferTexturePlan, CopyRanges};
+use measures::{Origin3d, Texels};
+use plan_buffer_texture::{BufferTextureCopy, BufferTexturePlan};
 use plan_buffers::{BufferCopy, BufferPlan};
-use plan_textures::{CopyParts, TexturePlan, TextureRanges};
+use plan_textures::{CopyParts, TexturePlan};
 use rule_copy_range::CopyExtent;
-use rule_init_ranges::OptionRange;
 use rule_selectors::TextureCopyBase;
 
 // What stands for an absent value.
-const ABSENT: u64 = 18446744073709551615;
+const ABSENT: u64 = u64::MAX;
 
 // Any word is taken: of a number of 32 bits, the bits above are left out.
 fn low_bits(word: u64) -> u32
@@ -23,26 +22,25 @@ fn low_bits(word: u64) -> u32
     (word % 4294967296) as u32
 }
 
-fn option_from(word: u64) -> OptionU32
+#[tactic(auto, unfolding(crate::specs::PlanWords::option_from))]
+fn option_from(word: u64) -> Option<u32>
     ensures { result ≡ option_from word }
 {
     if word == ABSENT {
-        return OptionU32::Absent;
+        return None;
     }
-    OptionU32::Given(low_bits(word))
+    Some(low_bits(word))
 }
 
 #[tactic(auto, unfolding(crate::specs::PlanWords::parts_from))]
 fn parts_from(word: u64) -> CopyParts
     ensures { result ≡ parts_from word }
 {
-    if word == 0 {
-        return CopyParts::Whole;
+    match word {
+        0 => CopyParts::Whole,
+        1 => CopyParts::DepthStencil,
+        _ => CopyParts::Planes,
     }
-    if word == 1 {
-        return CopyParts::DepthStencil;
-    }
-    CopyParts::Planes
 }
 
 #[tactic(auto, unfolding(crate::specs::PlanWords::base_from))]
@@ -76,66 +74,55 @@ fn extent_from(width: u64, height: u64, depth: u64) -> CopyExtent
 pub fn buffers_from(w: [u64; 6]) -> BufferPlan
     ensures { result ≡ buffers_from w }
 {
-    let region = BufferCopy {
-        src_offset: w[2],
-        dst_offset: w[3],
-        size: w[4],
-    };
-    let left = low_bits(w[0]);
     BufferPlan {
-        region,
-        left,
-        dst_range: OptionRange::Absent,
-        src_range: OptionRange::Absent,
+        region: BufferCopy {
+            src_offset: w[2],
+            dst_offset: w[3],
+            size: w[4],
+        },
+        left: low_bits(w[0]),
+        dst_range: None,
+        src_range: None,
         bytes_checked: w[1],
     }
 }
 
+#[tactic(auto, unfolding(crate::specs::PlanWords::buffer_texture_from))]
 pub fn buffer_texture_from(w: [u64; 15]) -> BufferTexturePlan
     ensures { result ≡ buffer_texture_from w }
 {
-    let bytes_per_row = option_from(w[4]);
-    let rows_per_image = option_from(w[5]);
-    let base = base_from(w[6], w[7], w[8], w[9], w[10], w[11]);
-    let size = extent_from(w[12], w[13], w[14]);
-    let left = low_bits(w[0]);
-    let region = BufferTextureCopy {
-        offset: w[3],
-        bytes_per_row,
-        rows_per_image,
-        base,
-        size,
-    };
     BufferTexturePlan {
-        region,
+        region: BufferTextureCopy {
+            offset: w[3],
+            bytes_per_row: option_from(w[4]),
+            rows_per_image: option_from(w[5]),
+            base: base_from(w[6], w[7], w[8], w[9], w[10], w[11]),
+            size: extent_from(w[12], w[13], w[14]),
+        },
         stride: w[2],
-        left,
-        ranges: CopyRanges::Absent,
+        left: low_bits(w[0]),
+        ranges: None,
         bytes_checked: w[1],
     }
 }
 
+#[tactic(auto, unfolding(crate::specs::PlanWords::textures_from))]
 pub fn textures_from(w: [u64; 18]) -> TexturePlan
     ensures { result ≡ textures_from w }
 {
-    let src = base_from(w[3], w[4], w[5], w[6], w[7], w[8]);
-    let dst = base_from(w[9], w[10], w[11], w[12], w[13], w[14]);
-    let size = extent_from(w[15], w[16], w[17]);
-    let parts = parts_from(w[1]);
-    let part = low_bits(w[2]);
-    let left = low_bits(w[0]);
     TexturePlan {
-        src,
-        dst,
-        size,
-        parts,
-        part,
-        left,
-        ranges: TextureRanges::Absent,
+        src: base_from(w[3], w[4], w[5], w[6], w[7], w[8]),
+        dst: base_from(w[9], w[10], w[11], w[12], w[13], w[14]),
+        size: extent_from(w[15], w[16], w[17]),
+        parts: parts_from(w[1]),
+        part: low_bits(w[2]),
+        left: low_bits(w[0]),
+        ranges: None,
     }
 }
 
 // What the words of a plan keep of it: nothing runs here.
+#[tactic(auto, using(crate::proofs::Reading::every_plan))]
 pub fn word_laws()
     ensures { EveryPlan }
 {}

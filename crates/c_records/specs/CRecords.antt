@@ -1,11 +1,7 @@
 -- Records and figures from numbers, as callers in other languages hand them.
-use Rattle.std.specs.Prelude.{ℕ, Bool, false, List, ltb, get_or}
+use Rattle.std.specs.Prelude.{ℕ, Bool, false, List, ltb, get_or, Option, Some, None}
 use Rattle.conditions.specs.Conditions.{pick}
 use Rattle.measures.specs.declared.Extent3d.{Extent3d}
-use Rattle.measures.specs.declared.OptionU32.{OptionU32}
-use Rattle.measures.specs.declared.OptionU32.TheVariants as W
-use Rattle.measures.specs.declared.OptionU64.{OptionU64}
-use Rattle.measures.specs.declared.OptionU64.TheVariants as L
 use Rattle.measures.specs.Measure.{texels}
 use Rattle.formats.specs.declared.TextureAspect.TheVariants.{Plane2}
 use Rattle.formats.specs.Aspects.{last_aspect, aspect_of}
@@ -18,12 +14,9 @@ use Rattle.records.specs.declared.Texture.{Texture}
 use Rattle.records.specs.declared.TexelCopyTextureInfo.{TexelCopyTextureInfo}
 use Rattle.records.specs.declared.TexelCopyBufferLayout.{TexelCopyBufferLayout}
 
--- a number, where it is given
-abbrev pub given : Bool → ℕ → OptionU32
-given isGiven n = pick isGiven (W.Given n) W.Absent
-
-abbrev pub given_size : Bool → ℕ → OptionU64
-given_size isGiven n = pick isGiven (L.Given n) L.Absent
+-- a value, where it is given
+abbrev pub given : {A : Type 0} → Bool → A → Option A
+given isGiven value = pick isGiven (Some value) None
 
 abbrev pub buffer_from : ℕ → ℕ → Buffer
 buffer_from size usage = record { size = size; usage = record { 0 = usage } }

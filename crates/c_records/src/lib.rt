@@ -1,30 +1,22 @@
 #![tactic(auto)]
 // Records and figures from numbers, as callers in other languages hand them.
-ghost use Rattle.std.specs.Prelude.{◌≡◌};
+ghost use Rattle.std.specs.Prelude.{◌≡◌, [], ◌∷◌};
 ghost use Rattle.formats.specs.Aspects.{aspect_of};
-ghost use Rattle.c_records.specs.CRecords.{given, given_size, buffer_from, layout_from, texture_from, view_from, size_from};
+ghost use Rattle.conditions.specs.Conditions.{pick};
+ghost use Rattle.refusals.specs.Order.{checked};
+ghost use Rattle.c_records.specs.CRecords.{given, buffer_from, layout_from, texture_from, view_from, size_from, device_with, aspect_check};
 
 use flags::{BufferUsages, TextureUsages};
 use formats::TextureAspect;
-use measures::{Extent3d, OptionU32, OptionU64, Origin3d, Texels};
-use records::{Buffer, TexelCopyBufferLayout, TexelCopyTextureInfo, Texture};
+use measures::{Extent3d, Origin3d, Texels};
+use records::{Buffer, Device, TexelCopyBufferLayout, TexelCopyTextureInfo, Texture};
+use refusals::TransferError;
 
-fn given_number(is_given: bool, n: u32) -> OptionU32
-    ensures { result ≡ given is_given n }
+// A value, where it is given.
+pub fn given<T: Copy>(is_given: bool, value: T) -> Option<T>
+    ensures { result ≡ given is_given value }
 {
-    if is_given {
-        return OptionU32::Given(n);
-    }
-    OptionU32::Absent
-}
-
-pub fn given_size(is_given: bool, n: u64) -> OptionU64
-    ensures { result ≡ given_size is_given n }
-{
-    if is_given {
-        return OptionU64::Given(n);
-    }
-    OptionU64::Absent
+    if is_given { Some(value) } else { None }
 }
 
 pub fn buffer_from(size: u64, usage: u32) -> Buffer
@@ -45,12 +37,10 @@ pub fn layout_from(
 ) -> TexelCopyBufferLayout
     ensures { result ≡ layout_from offset has_bytes_per_row bytes_per_row has_rows_per_image rows_per_image }
 {
-    let bytes = given_number(has_bytes_per_row, bytes_per_row);
-    let rows = given_number(has_rows_per_image, rows_per_image);
     TexelCopyBufferLayout {
         offset,
-        bytes_per_row: bytes,
-        rows_per_image: rows,
+        bytes_per_row: given(has_bytes_per_row, bytes_per_row),
+        rows_per_image: given(has_rows_per_image, rows_per_image),
     }
 }
 
@@ -108,4 +98,35 @@ pub fn size_from(s: &[u32; 3]) -> Extent3d
         height: Texels(s[1]),
         depth_or_array_layers: s[2],
     }
+}
+
+// The destination's index: 0 is the source's, which may be the same.
+pub fn dst_index(is_source: bool) -> u32
+    ensures { result ≡ pick is_source 0 1 }
+{
+    if is_source { 0 } else { 1 }
+}
+
+// The device of a copy with a texture, by the fact that it asks for.
+pub fn device_with(depth_texture_and_buffer_copies: bool) -> Device
+    ensures { result ≡ device_with depth_texture_and_buffer_copies }
+{
+    Device {
+        depth_texture_and_buffer_copies,
+        unrestricted_index_buffer: false,
+    }
+}
+
+// A view's number past the aspects names none, of the texture.
+#[tactic(auto, using(refusals::proofs::Order::ordered), unfolding(refusals::specs::Order::decided))]
+pub fn check_aspect(texture: &[u32; 8], view: &[u32; 5]) -> Result<(), TransferError>
+    ensures { result ≡ checked (aspect_check texture.now view.now ∷ []) }
+{
+    if view[4] > formats::LAST_ASPECT {
+        return Err(TransferError::InvalidTextureAspect {
+            format: texture[0],
+            aspect: TextureAspect::Plane2,
+        });
+    }
+    Ok(())
 }

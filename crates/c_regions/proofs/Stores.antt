@@ -1,6 +1,6 @@
 -- Words that were stored one by one.
 -- Assumes nothing.
-use Rattle.std.proofs.Common.{◌≡◌, ℕ, zero, suc, ◌+◌, ◌<◌, List, [], ◌∷◌, length, get_or, drop, set, sym, ap, ◌∙◌, append-nil, arith, drop_of_length-le, get_or-drop, drop-cons}
+use Rattle.std.proofs.Common.{◌≡◌, ℕ, zero, suc, ◌+◌, ◌<◌, List, [], ◌∷◌, length, get_or, drop, sym, ap, ◌∙◌, append-nil, arith, drop_of_length-le, get_or-drop, drop-cons}
 use lib.Seq.{sets, sets-eq, set-get_or}
 use Rattle.c_regions.specs.Regions.{with_aspects}
 

@@ -30,17 +30,13 @@ fn regions_left(word: u64) -> u64
 fn layer_on(layer: u64) -> u64
     ensures { result ≡ (layer + 1) % 2 ^ 32 }
 {
-    std::num::wrapping_add_u64(layer, 1) % 4294967296
+    layer.wrapping_add(1) % 4294967296
 }
-
-// Lent as slices, the two show how many words they have: nothing runs here.
-fn counted(plan: &[u64], region: &[u64]) {}
 
 // The words go over one by one: the plan's have just been stored one by one, and a load of several would wait for those stores.
 fn buffer_region(plan: &[u64; 6], region: &mut [u64; 3])
     ensures { region.new ≡ buffer_region plan.now }
 {
-    counted(plan, region);
     region[0] = plan[2];
     region[1] = plan[3];
     region[2] = plan[4];
@@ -49,7 +45,6 @@ fn buffer_region(plan: &[u64; 6], region: &mut [u64; 3])
 fn buffer_texture_region(plan: &[u64; 15], region: &mut [u64; 12])
     ensures { region.new ≡ buffer_texture_region plan.now }
 {
-    counted(plan, region);
     region[0] = plan[3];
     region[1] = plan[4];
     region[2] = plan[5];
@@ -68,7 +63,6 @@ fn buffer_texture_region(plan: &[u64; 15], region: &mut [u64; 12])
 fn full_region(plan: &[u64; 18], region: &mut [u64; 15], source: u64, destination: u64)
     ensures { region.new ≡ with_aspects source destination (drop 3 plan.now) }
 {
-    counted(plan, region);
     region[0] = plan[3];
     region[1] = plan[4];
     region[2] = plan[5];
@@ -90,7 +84,6 @@ fn full_region(plan: &[u64; 18], region: &mut [u64; 15], source: u64, destinatio
 fn chroma_region(plan: &[u64; 18], region: &mut [u64; 15])
     ensures { region.new ≡ chroma_halved (with_aspects PLANE_1 PLANE_1 (drop 3 plan.now)) }
 {
-    counted(plan, region);
     region[0] = plan[3];
     region[1] = plan[4];
     region[2] = plan[5] / 2;
@@ -118,23 +111,19 @@ fn depth_or_stencil(part: u64) -> u64
     STENCIL
 }
 
+#[tactic(auto, using(crate::proofs::Stores::own_aspects), unfolding(crate::specs::Regions::texture_region))]
 fn texture_region(plan: &[u64; 18], region: &mut [u64; 15])
     ensures { region.new ≡ texture_region plan.now }
 {
-    if plan[1] == 0 {
-        full_region(plan, region, plan[8], plan[14]);
-        return;
+    match plan[1] {
+        0 => full_region(plan, region, plan[8], plan[14]),
+        1 => {
+            let aspects = depth_or_stencil(plan[2]);
+            full_region(plan, region, aspects, aspects);
+        }
+        _ if plan[2] == 0 => full_region(plan, region, PLANE_0, PLANE_0),
+        _ => chroma_region(plan, region),
     }
-    if plan[1] == 1 {
-        let aspects = depth_or_stencil(plan[2]);
-        full_region(plan, region, aspects, aspects);
-        return;
-    }
-    if plan[2] == 0 {
-        full_region(plan, region, PLANE_0, PLANE_0);
-        return;
-    }
-    chroma_region(plan, region);
 }
 
 #[tactic(auto, unfolding(crate::specs::Regions::part_follows))]
@@ -145,6 +134,7 @@ fn part_follows(parts: u64, part: u64) -> bool
 }
 
 // The layer's other part, or the first part one layer on.
+#[tactic(auto, unfolding(crate::specs::Regions::part_on))]
 fn part_on(plan: &mut [u64; 18])
     ensures { plan.new ≡ part_on plan.old }
 {
@@ -158,6 +148,7 @@ fn part_on(plan: &mut [u64; 18])
 }
 
 // 1, the next region's numbers, and the plan after it; or 0, zeros, and the plan as it is, where no region is left.
+#[tactic(auto, unfolding(crate::specs::Regions::next_number, crate::specs::Regions::if_left, crate::specs::Regions::buffer_behind))]
 pub fn copy_planner_next_buffer_copy(plan: &mut [u64; 6], region: &mut [u64; 3]) -> u32
     ensures value { result ≡ next_number plan.old }
     ensures region_after { region.new ≡ if_left plan.old (buffer_region plan.old) (replicate 3 0) }
@@ -173,6 +164,7 @@ pub fn copy_planner_next_buffer_copy(plan: &mut [u64; 6], region: &mut [u64; 3])
     1
 }
 
+#[tactic(auto, unfolding(crate::specs::Regions::next_number, crate::specs::Regions::if_left, crate::specs::Regions::buffer_texture_behind))]
 pub fn copy_planner_next_buffer_texture_copy(plan: &mut [u64; 15], region: &mut [u64; 12]) -> u32
     ensures value { result ≡ next_number plan.old }
     ensures region_after { region.new ≡ if_left plan.old (buffer_texture_region plan.old) (replicate 12 0) }
@@ -190,6 +182,7 @@ pub fn copy_planner_next_buffer_texture_copy(plan: &mut [u64; 15], region: &mut 
     1
 }
 
+#[tactic(auto, unfolding(crate::specs::Regions::next_number, crate::specs::Regions::if_left, crate::specs::Regions::texture_behind))]
 pub fn copy_planner_next_texture_copy(plan: &mut [u64; 18], region: &mut [u64; 15]) -> u32
     ensures value { result ≡ next_number plan.old }
     ensures region_after { region.new ≡ if_left plan.old (texture_region plan.old) (replicate 15 0) }
@@ -212,6 +205,7 @@ pub fn step_laws()
 {}
 
 // 0, the regions left from the slice's start, and the plan after them; or 38, and nothing changed, where the slice is shorter than they are.
+#[tactic(auto, unfolding(crate::specs::Regions::written_number, crate::specs::Regions::written_words, crate::specs::Regions::words_of, plan_writer::specs::Writing::slots_of, plan_writer::specs::Writing::fits, plan_kinds::specs::Regions::left_of, plan_kinds::specs::Regions::fields_of))]
 pub fn copy_planner_write_buffer_copies(plan: &mut [u64; 6], regions: &mut [u64]) -> u32
     ensures value { result ≡ written_number (Plan.Buffers (buffers_from plan.old)) (length regions.old) }
     ensures regions_after { regions.new ≡ slots_of (Plan.Buffers (buffers_from plan.old)) regions.old }
@@ -227,6 +221,7 @@ pub fn copy_planner_write_buffer_copies(plan: &mut [u64; 6], regions: &mut [u64]
     0
 }
 
+#[tactic(auto, unfolding(crate::specs::Regions::written_number, crate::specs::Regions::written_words, crate::specs::Regions::words_of, plan_writer::specs::Writing::slots_of, plan_writer::specs::Writing::fits, plan_kinds::specs::Regions::left_of, plan_kinds::specs::Regions::fields_of))]
 pub fn copy_planner_write_buffer_texture_copies(plan: &mut [u64; 15], regions: &mut [u64]) -> u32
     ensures value { result ≡ written_number (Plan.BufferTexture (buffer_texture_from plan.old)) (length regions.old) }
     ensures regions_after { regions.new ≡ slots_of (Plan.BufferTexture (buffer_texture_from plan.old)) regions.old }
@@ -242,6 +237,7 @@ pub fn copy_planner_write_buffer_texture_copies(plan: &mut [u64; 15], regions: &
     0
 }
 
+#[tactic(auto, unfolding(crate::specs::Regions::written_number, crate::specs::Regions::written_words, crate::specs::Regions::words_of, plan_writer::specs::Writing::slots_of, plan_writer::specs::Writing::fits, plan_kinds::specs::Regions::left_of, plan_kinds::specs::Regions::fields_of))]
 pub fn copy_planner_write_texture_copies(plan: &mut [u64; 18], regions: &mut [u64]) -> u32
     ensures value { result ≡ written_number (Plan.Textures (textures_from plan.old)) (length regions.old) }
     ensures regions_after { regions.new ≡ slots_of (Plan.Textures (textures_from plan.old)) regions.old }

@@ -2,12 +2,10 @@
 // Copies between textures, for callers in C and Rust. A crate of its own, so that its archive holds one copy function, into
 // which the compiler inlines the rules, but for the refusal of a range.
 ghost use Rattle.std.specs.Prelude.{◌≡◌};
-ghost use Rattle.conditions.specs.Conditions.{pick};
 ghost use Rattle.c_words.specs.Words.{textures_number, textures_plan, textures_ranges};
-ghost use Rattle.c_textures.specs.Answer.{side_from, known, answer};
+ghost use Rattle.c_textures.specs.Answer.{side_from, answer};
 
-use copy_textures::TexturePlanned;
-use formats::TextureAspect;
+use plan_textures::TexturePlan;
 use records::TextureSide;
 use refusals::TransferError;
 
@@ -15,49 +13,10 @@ use refusals::TransferError;
 fn side_from(texture: &[u32; 8], view: &[u32; 5]) -> TextureSide
     ensures { result ≡ side_from texture.now view.now }
 {
-    let t = c_records::texture_from(texture);
-    let v = c_records::view_from(view);
     TextureSide {
-        texture: t,
-        view: v,
+        texture: c_records::texture_from(texture),
+        view: c_records::view_from(view),
     }
-}
-
-fn no_aspect(format: u32) -> TexturePlanned
-    ensures { result ≡ TexturePlanned.Refused (TransferError.InvalidTextureAspect format TextureAspect.Plane2) }
-{
-    TexturePlanned::Refused(TransferError::InvalidTextureAspect {
-        format,
-        aspect: TextureAspect::Plane2,
-    })
-}
-
-// The source is texture 0.
-fn dst_index(same_texture: bool) -> u32
-    ensures { result ≡ pick same_texture 0 1 }
-{
-    if same_texture { 0 } else { 1 }
-}
-
-fn plan_known(
-    same_texture: bool,
-    src: &[u32; 8],
-    src_view: &[u32; 5],
-    dst: &[u32; 8],
-    dst_view: &[u32; 5],
-    size: &[u32; 3],
-) -> TexturePlanned
-    ensures { result ≡ known same_texture src.now src_view.now dst.now dst_view.now size.now }
-{
-    let from = side_from(src, src_view);
-    let to = side_from(dst, dst_view);
-    copy_textures::copy_texture_to_texture(
-        0,
-        from,
-        dst_index(same_texture),
-        to,
-        c_records::size_from(size),
-    )
 }
 
 fn plan_copy(
@@ -67,16 +26,16 @@ fn plan_copy(
     dst: &[u32; 8],
     dst_view: &[u32; 5],
     size: &[u32; 3],
-) -> TexturePlanned
+) -> Result<TexturePlan, TransferError>
     ensures { result ≡ answer same_texture src.now src_view.now dst.now dst_view.now size.now }
 {
-    if src_view[4] > formats::LAST_ASPECT {
-        return no_aspect(src[0]);
-    }
-    if dst_view[4] > formats::LAST_ASPECT {
-        return no_aspect(dst[0]);
-    }
-    plan_known(same_texture, src, src_view, dst, dst_view, size)
+    c_records::check_aspect(src, src_view)?;
+    c_records::check_aspect(dst, dst_view)?;
+    let from = side_from(src, src_view);
+    let to = side_from(dst, dst_view);
+    let dst_index = c_records::dst_index(same_texture);
+    let s = c_records::size_from(size);
+    copy_textures::copy_texture_to_texture(0, from, dst_index, to, s)
 }
 
 // 0 for an accepted copy, else the number of its refusal; its plan and its ranges, or the refusal's details.
@@ -96,5 +55,5 @@ pub extern "C" fn copy_planner_texture_to_texture(
     ensures ranges_after { ranges.new ≡ textures_ranges (answer same_texture src.now src_view.now dst.now dst_view.now size.now) }
 {
     let planned = plan_copy(same_texture, src, src_view, dst, dst_view, size);
-    c_words::put_textures(planned, plan, ranges)
+    c_words::put(planned, plan, ranges)
 }

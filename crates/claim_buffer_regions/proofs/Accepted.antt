@@ -1,11 +1,11 @@
 -- What an acceptance says of a copy between buffers.
 -- Assumes nothing.
+use Rattle.std.specs.Prelude.{Ok}
 use mathlib.Core.Path.{◌≡◌}
 use Prim.Native.Nat.{ℕ, ◌+◌, ◌-◌, ◌≤◌}
 use Rattle.records.specs.declared.Device.{Device}
 use Rattle.plan_buffers.specs.declared.BufferPlan.{BufferPlan}
 use Rattle.plan_buffers.specs.Plan.{plan_of}
-use Rattle.copy_buffers.specs.declared.BufferPlanned.TheVariants as P
 use Rattle.copy_buffers.specs.Plan.{size_or, buffer_to_buffer}
 use Rattle.copy_buffers.specs.Copy as planner
 use Rattle.copy_buffers.proofs.Accepted.{every_copy_law}
@@ -35,7 +35,7 @@ copy_for device i j c =
 
 pub checks_of_lem :
     (device : Device) (i j : ℕ) (c : Copy) (p : BufferPlan)
-    → buffer_to_buffer device i c.src.buffer c.src.offset j c.dst.buffer c.dst.offset c.size ≡ P.Plan p → Checks c p
+    → buffer_to_buffer device i c.src.buffer c.src.offset j c.dst.buffer c.dst.offset c.size ≡ Ok p → Checks c p
 unfolding buffer_to_buffer
 checks_of_lem device i j c p h =
     let a = (every_copy_law (copy_for device i j c)).is_accepted p h in

@@ -1,5 +1,6 @@
 -- Asking a plan with no region left, and with one.
 -- Assumes nothing.
+use Rattle.std.specs.Prelude.{Some, None}
 use mathlib.Core.Path.{◌≡◌, refl}
 use mathlib.Core.List.{List, [], ◌∷◌}
 use Prim.Native.Nat.{ℕ}
@@ -8,15 +9,14 @@ use borrow.Author.Tests.{eq-eqb, ne_eqb}
 use Rattle.conditions.specs.Conditions.{stop_if}
 use Rattle.plan_buffers.specs.declared.BufferCopy.{BufferCopy}
 use Rattle.plan_buffers.specs.declared.BufferPlan.{BufferPlan}
-use Rattle.plan_buffers.specs.declared.NextBufferCopy.TheVariants.{Region, NoneLeft}
 use Rattle.plan_buffers.specs.Asking.{advanced, next_of}
 use Rattle.claim_buffer_regions.specs.Claim.{Gives, ended, gave}
 
-at_end : (p : BufferPlan) → p.left ≡ 0 → next_of p ≡ record { answer = NoneLeft; plan = p }
+at_end : (p : BufferPlan) → p.left ≡ 0 → next_of p ≡ record { answer = None; plan = p }
 unfolding next_of stop_if
 at_end p e = rw (eq-eqb p.left 0 e)
 
-at_last : (p : BufferPlan) → p.left ≡ 1 → next_of p ≡ record { answer = Region p.region; plan = advanced p }
+at_last : (p : BufferPlan) → p.left ≡ 1 → next_of p ≡ record { answer = Some p.region; plan = advanced p }
 unfolding next_of stop_if
 at_last p e = rw (ne_eqb p.left 0 (λ z. omega arith))
 
@@ -38,6 +38,6 @@ pub one_only : {p : BufferPlan} {rs : List BufferCopy} → Gives p rs → p.left
 one_only {p} (ended h q) e = let f = rw (at_last p e) at h in let z : ◌≡◌ {A = ℕ} 0 1 = cc in absurd (omega arith)
 one_only {p} (gave {r = r} {rs = rs} h g) e =
     let m = at_last p e in
-    let f : Region p.region ≡ Region r = rw m at h in
+    let f : Some p.region ≡ Some r = rw m at h in
     let t : rs ≡ [] = none_only (rw m at g) (left_next p e) in
     cc

@@ -1,15 +1,13 @@
 -- The plan of an accepted copy between buffers is the copy's.
 -- Assumes nothing.
+use Rattle.std.specs.Prelude.{Option, Some, None}
 use mathlib.Core.Path.{◌≡◌, refl, sym, ap, ◌∙◌}
 use mathlib.Core.Bool.{Bool, true, false, cond}
 use mathlib.Core.List.{List, [], ◌∷◌}
 use mathlib.Core.Logic.{◌↔◌}
 use Prim.Native.Nat.{ℕ, ◌-◌}
 use Rattle.conditions.specs.Conditions.{pick}
-use Rattle.measures.specs.declared.OptionU64.{OptionU64}
-use Rattle.measures.specs.declared.OptionU64.TheVariants as O
 use Rattle.rule_init_ranges.specs.declared.BufferInitRange.{BufferInitRange}
-use Rattle.rule_init_ranges.specs.declared.OptionRange.TheVariants.{Given, Absent}
 use Rattle.rule_init_ranges.specs.Init.{unless}
 use Rattle.plan_buffers.specs.declared.BufferCopy.{BufferCopy}
 use Rattle.plan_buffers.specs.declared.BufferPlan.{BufferPlan}
@@ -20,12 +18,12 @@ use Rattle.claim_buffer_regions.specs.Claim.{Gives, Planned, EveryBufferCopy}
 use Rattle.claim_buffer_regions.proofs.Accepted.{Checks, checks_of_lem}
 use Rattle.claim_buffer_regions.proofs.Asks.{gives_none, gives_one, none_only, one_only}
 
-same_size : (size : OptionU64) (rest : ℕ) → planner.size_or size rest ≡ size_or size rest
+same_size : (size : Option ℕ) (rest : ℕ) → planner.size_or size rest ≡ size_or size rest
 unfolding planner.size_or
-same_size (O.Given n) rest = refl
-same_size O.Absent rest = refl
+same_size (Some n) rest = refl
+same_size None rest = refl
 
-same_range : (t : Bool) (r : BufferInitRange) → unless t r ≡ cond t Absent (Given r)
+same_range : (t : Bool) (r : BufferInitRange) → unless t r ≡ cond t None (Some r)
 same_range true r = refl
 same_range false r = refl
 

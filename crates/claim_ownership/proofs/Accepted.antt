@@ -1,5 +1,6 @@
 -- What an acceptance says of the copy.
 -- Assumes nothing.
+use Rattle.std.specs.Prelude.{Ok}
 use mathlib.Core.Path.{◌≡◌, refl, sym, ◌∙◌}
 use mathlib.Core.Bool.{true}
 use borrow.Author.Tests.{not-false}
@@ -8,7 +9,6 @@ use Rattle.refusals.proofs.Order.{none_in, test_fails, checked_passes}
 use Rattle.rule_formats.specs.Rules.{layout_checks}
 use Rattle.plan_buffer_texture.specs.declared.BufferTexturePlan.{BufferTexturePlan}
 use Rattle.copy_buffer_texture.specs.declared.UploadSource.TheVariants as S
-use Rattle.copy_buffer_texture.specs.declared.BufferTexturePlanned.TheVariants as P
 use Rattle.copy_buffer_texture.specs.Copy.{Direction, Upload, Download, Copy}
 use Rattle.copy_buffer_texture.specs.Plan.{aspects, plan_for}
 use Rattle.copy_buffer_texture.specs.Plan as planner
@@ -27,7 +27,7 @@ one_aspect c a =
     let rule = layout_checks c.view.aspect (aspects c) c.texture c.layout (aligned c.direction) in
     not-false (is_one (aspects c)) (test_fails _ _ (none_in rule (checked_passes rule a.layout) 1))
 
-pub checks_of_lem : (c : Copy) (p : BufferTexturePlan) → planned c ≡ P.Plan p → Checks c p
+pub checks_of_lem : (c : Copy) (p : BufferTexturePlan) → planned c ≡ Ok p → Checks c p
 checks_of_lem c p h =
     let a = (every_copy_law c).is_accepted p (sym (either_way c.direction refl) ∙ h) in
     record { accepted = a.0; one = one_aspect c a.0; plan = a.1 }

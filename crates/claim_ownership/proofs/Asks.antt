@@ -1,5 +1,6 @@
 -- Asking a plan until none is left gives its regions and nothing else, and of an accepted copy's plan the copy's.
 -- Assumes nothing.
+use Rattle.std.specs.Prelude.{Some, None}
 use mathlib.Core.Path.{◌≡◌, refl, ap, ◌∙◌}
 use mathlib.Core.Bool.{true}
 use mathlib.Core.List.{List, [], ◌∷◌}
@@ -10,7 +11,6 @@ use borrow.Author.Tests.{eq-eqb, ne_eqb}
 use Rattle.conditions.specs.Conditions.{stop_if}
 use Rattle.plan_buffer_texture.specs.declared.BufferTextureCopy.{BufferTextureCopy}
 use Rattle.plan_buffer_texture.specs.declared.BufferTexturePlan.{BufferTexturePlan}
-use Rattle.plan_buffer_texture.specs.declared.NextBufferTextureCopy.TheVariants.{Region, NoneLeft}
 use Rattle.rule_selectors.specs.Selector.{next_layer}
 use Rattle.plan_buffer_texture.specs.Asking.{moved, advanced, next_of}
 use Rattle.claim_ownership.specs.Asking.{Gives, ended, gave}
@@ -22,11 +22,11 @@ abbrev pub next_regions : ℕ → BufferTexturePlan → List BufferTextureCopy
 next_regions zero p = []
 next_regions (suc n) p = p.region ∷ next_regions n (advanced p)
 
-at_end : (p : BufferTexturePlan) → p.left ≡ 0 → next_of p ≡ record { answer = NoneLeft; plan = p }
+at_end : (p : BufferTexturePlan) → p.left ≡ 0 → next_of p ≡ record { answer = None; plan = p }
 unfolding next_of stop_if
 at_end p e = rw (eq-eqb p.left 0 e)
 
-at_more : (p : BufferTexturePlan) → 0 < p.left → next_of p ≡ record { answer = Region p.region; plan = advanced p }
+at_more : (p : BufferTexturePlan) → 0 < p.left → next_of p ≡ record { answer = Some p.region; plan = advanced p }
 unfolding next_of stop_if
 at_more p h = rw (ne_eqb p.left 0 (λ e. omega arith))
 
@@ -44,7 +44,7 @@ gives_only zero {p} (gave h g) e = let f = rw (at_end p e) at h in let z : ◌�
 gives_only (suc n) {p} (ended h q) e = let f = rw (at_more p (omega arith)) at h in let z : ◌≡◌ {A = ℕ} 0 1 = cc in absurd (omega arith)
 gives_only (suc n) {p} (gave {r = r} {rs = rs} h g) e =
     let m = at_more p (omega arith) in
-    let f : Region p.region ≡ Region r = rw m at h in
+    let f : Some p.region ≡ Some r = rw m at h in
     let t : rs ≡ next_regions n (advanced p) = gives_only n (rw m at g) (omega arith) in
     cc
 

@@ -1,5 +1,6 @@
 -- The planner's definitions have the claim's figures, over plain numbers.
 -- Assumes nothing.
+use Rattle.std.specs.Prelude.{Option, Some, None}
 use mathlib.Core.Path.{◌≡◌, refl, sym, ap}
 use mathlib.Core.Bool.{Bool, true, false, cond, not, ◌&&◌, ◌||◌}
 use mathlib.Core.Logic.{◌⊎◌, inl, inr}
@@ -11,8 +12,6 @@ use borrow.Author.Tests.{leb-true, ltb-true, ltb-false, eqb-true, eqb-false, eq-
 use Rattle.conditions.specs.Conditions.{pick, stop_if}
 use Rattle.conditions.proofs.Rules.{both_true, all_true}
 use Rattle.measures.specs.declared.Extent3d.{Extent3d}
-use Rattle.measures.specs.declared.OptionU32.{OptionU32}
-use Rattle.measures.specs.declared.OptionU32.TheVariants as O
 use Rattle.measures.specs.Measure.{or_else}
 use Rattle.mip_levels.specs.Level.{texture_dimension, side_at, mip_level_size, texels_at}
 use Rattle.mip_levels.proofs.Halving.{level_laws}
@@ -27,7 +26,6 @@ use Rattle.rule_copy_range.specs.Range.{layers_of, depth_of}
 use Rattle.rule_selectors.specs.Selector.{layer_of, z_of}
 use Rattle.rule_init_ranges.specs.declared.MemoryInitKind.{MemoryInitKind}
 use Rattle.rule_init_ranges.specs.declared.MemoryInitKind.TheVariants.{ImplicitlyInitialized, NeedsInitializedMemory}
-use Rattle.rule_init_ranges.specs.declared.OptionRange.TheVariants.{Absent}
 use Rattle.rule_init_ranges.specs.Init as I
 use Rattle.claim_ownership.specs.Formats.{is_all}
 use Rattle.claim_ownership.specs.Regions.{or_dense}
@@ -61,10 +59,10 @@ neither_is false false = refl
 
 -- ---- figures
 
-pub dense_is : (o : OptionU32) (n : ℕ) → or_else o n ≡ or_dense o n
+pub dense_is : (o : Option ℕ) (n : ℕ) → or_else o n ≡ or_dense o n
 unfolding or_else or_dense
-dense_is (O.Given m) n = refl
-dense_is O.Absent n = refl
+dense_is (Some m) n = refl
+dense_is None n = refl
 
 pub stacked_is : (n stride last : ℕ) → stacked n stride last ≡ cond (eqb n 0) 0 ((n - 1) * stride + last)
 unfolding stacked
@@ -209,10 +207,10 @@ touched_is s e = rw (down_is, up_is)
 -- a range unless two numbers are equal, where two others are equal with them
 unless_is :
     (x y x' y' a b a' b' : ℕ) (k : MemoryInitKind) → (x ≡ y → x' ≡ y') → (x' ≡ y' → x ≡ y) → ((x' ≡ y' → ⊥) → (a ≡ a') × (b ≡ b'))
-    → I.unless (eqb x y) (I.buffer_range a b k) ≡ cond (eqb x' y') Absent (run a' b' k)
+    → I.unless (eqb x y) (I.buffer_range a b k) ≡ cond (eqb x' y') None (run a' b' k)
 unless_is x y x' y' a b a' b' k f g same = rw (test_is x y x' y' f g) (go (eqb x' y') refl)
   where
-    go : (t : Bool) → eqb x' y' ≡ t → I.unless t (I.buffer_range a b k) ≡ cond t Absent (run a' b' k)
+    go : (t : Bool) → eqb x' y' ≡ t → I.unless t (I.buffer_range a b k) ≡ cond t None (run a' b' k)
     go true e = refl
     go false e = let h = same (eqb-false x' y' e) in rw (h.0, h.1)
 

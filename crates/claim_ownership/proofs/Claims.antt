@@ -1,5 +1,6 @@
 -- Demand 3, of every accepted copy.
 -- Assumes nothing.
+use Rattle.std.specs.Prelude.{Option, Some}
 use mathlib.Core.Path.{◌≡◌, refl, ap, ◌∙◌}
 use mathlib.Core.Bool.{Bool, true, false, cond}
 use mathlib.Core.List.{List}
@@ -11,8 +12,6 @@ use borrow.Author.Tests.{ltb-true, ltb-false}
 use Rattle.rule_init_ranges.specs.declared.MemoryInitKind.TheVariants.{ImplicitlyInitialized, NeedsInitializedMemory}
 use Rattle.rule_init_ranges.specs.declared.BufferInitRanges.{BufferInitRanges}
 use Rattle.plan_buffer_texture.specs.declared.BufferTextureCopy.{BufferTextureCopy}
-use Rattle.plan_buffer_texture.specs.declared.CopyRanges.{CopyRanges}
-use Rattle.plan_buffer_texture.specs.declared.CopyRanges.TheVariants.{Given}
 use Rattle.claim_ownership.specs.Asking.{Gives}
 use Rattle.records.specs.declared.Buffer.{Buffer}
 use Rattle.copy_buffer_texture.specs.declared.UploadSource.TheVariants as S
@@ -28,6 +27,7 @@ use Rattle.claim_ownership.proofs.Owners as owners
 use Rattle.claim_ownership.proofs.Asks as asks
 use Rattle.claim_ownership.proofs.Named.{named_by, boxed}
 use Rattle.claim_ownership.proofs.Runs as runs
+use Rattle.rule_init_ranges.specs.declared.TextureInitRange.{TextureInitRange}
 
 -- a second region is that of a layer, and each is that of an image
 layered : (t : Bool) (d m : ℕ) → 0 < m → m < cond t d 1 → (t ≡ true) × (m < d)
@@ -64,8 +64,8 @@ module _ (c : Copy) (s : Sound c) (pw : 0 < c.size.width.0) (ph : 0 < c.size.hei
   abbrev e₀ : ℕ
   e₀ = c.layout.offset + total c
 
-  abbrev ranges_of : BufferInitRanges → CopyRanges
-  ranges_of r = Given (texture_range c) r
+  abbrev ranges_of : BufferInitRanges → Option (TextureInitRange × BufferInitRanges)
+  ranges_of r = Some ((texture_range c), r)
 
   -- a run that is written, padded or not
   abbrev run : Bool → BufferInitRanges

@@ -1,5 +1,6 @@
 -- Of every accepted copy with a size of 0.
 -- Assumes nothing.
+use Rattle.std.specs.Prelude.{None}
 use mathlib.Core.Path.{◌≡◌, refl}
 use mathlib.Core.Bool.{Bool, true, false, ◌||◌}
 use mathlib.Core.Logic.{inl, inr}
@@ -7,7 +8,6 @@ use lib.Dec.{eqb}
 use borrow.Author.Tests.{eq-eqb}
 use Rattle.measures.specs.Measure.{is_empty}
 use Rattle.plan_buffer_texture.specs.declared.BufferTexturePlan.{BufferTexturePlan}
-use Rattle.plan_buffer_texture.specs.declared.CopyRanges.TheVariants.{Absent}
 use Rattle.plan_buffer_texture.specs.Plan.{ranges_of, plan_of}
 use Rattle.copy_buffer_texture.specs.Plan.{plan_for}
 use Rattle.copy_buffer_texture.specs.Copy.{Copy}
@@ -27,7 +27,7 @@ nothing c (inl e) = rw (eq-eqb c.size.width.0 0 e)
 nothing c (inr (inl e)) = rw (eq-eqb c.size.height.0 0 e, or_true (eqb c.size.width.0 0))
 nothing c (inr (inr e)) = rw (eq-eqb (depth c) 0 e, or_true (eqb c.size.height.0 0), or_true (eqb c.size.width.0 0))
 
-emptied : (c : Copy) (p : BufferTexturePlan) → Checks c p → NoSize c → (p.left ≡ 0) × (p.ranges ≡ Absent) × (p.bytes_checked ≡ total c)
+emptied : (c : Copy) (p : BufferTexturePlan) → Checks c p → NoSize c → (p.left ≡ 0) × (p.ranges ≡ None) × (p.bytes_checked ≡ total c)
 unfolding plan_for plan_of ranges_of
 emptied c p k z = rw (← k.plan, linear_is c p k, nothing c z) (refl, refl, refl)
 

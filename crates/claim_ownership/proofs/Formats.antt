@@ -1,5 +1,6 @@
 -- The planner's sheet of formats has the claim's figures, by one test that is computed of every format and aspect.
 -- Assumes nothing.
+use Rattle.std.specs.Prelude.{Result, Ok, Err}
 use mathlib.Core.Path.{◌≡◌, refl}
 use mathlib.Core.Bool.{Bool, true, false, not, ◌&&◌, ◌||◌}
 use Prim.Native.Nat.{ℕ, ◌<◌}
@@ -15,20 +16,19 @@ use Rattle.formats.specs.declared.TextureAspect.TheVariants.{All, StencilOnly, D
 use Rattle.formats.specs.Table.{format_row, aspects_of, block_width_of, block_height_of, is_format, block_dimensions}
 use Rattle.formats.specs.Table as sheet
 use Rattle.formats.specs.Aspects.{asked_of, chosen_aspects, bytes_of, block_copy_size}
-use Rattle.refusals.specs.declared.Checked.{Checked}
-use Rattle.refusals.specs.declared.Checked.TheVariants as C
 use Rattle.rule_linear_data.specs.Linear.{block_bytes}
 use Rattle.refusals.specs.Order.{refuse_if, first, decided, checked}
 use Rattle.rule_formats.specs.Rules.{is_depth_only, src_format_checks, dst_format_checks}
 use Rattle.copy_buffer_texture.specs.Copy.{Direction, Upload, Download}
 use Rattle.copy_buffer_texture.specs.Laws.{format_checks}
 use Rattle.claim_ownership.specs.Formats.{formats, block_side, is_all, chosen_bits, bytes_per_block}
+use Rattle.refusals.specs.declared.TransferError.{TransferError}
 
-goes_b : Checked → Bool
-goes_b C.GoOn = true
-goes_b (C.Refused e) = false
+goes_b : Result Unit TransferError → Bool
+goes_b (Ok tt) = true
+goes_b (Err e) = false
 
-abbrev format_rule : Direction → ℕ → TextureAspect → Checked
+abbrev format_rule : Direction → ℕ → TextureAspect → Result Unit TransferError
 format_rule d format aspect = checked (format_checks d format aspect)
 
 -- a buffer copy may read or write it
@@ -67,12 +67,12 @@ pub record Figures (format : ℕ) (aspect : TextureAspect) : Type 0 where
   pub bytes : block_bytes format aspect ≡ bytes_per_block format aspect
   pub bytes_some : 0 < bytes_per_block format aspect
 
-may_copy : (m : Checked) (o t : Bool) → (not (goes_b m && o) || t) ≡ true → m ≡ C.GoOn → o ≡ true → t ≡ true
+may_copy : (m : Result Unit TransferError) (o t : Bool) → (not (goes_b m && o) || t) ≡ true → m ≡ (Ok tt) → o ≡ true → t ≡ true
 unfolding goes_b
 may_copy m o t e p q = rw (p, q) at e
 
 pub figures :
-    (d : Direction) (format : ℕ) (aspect : TextureAspect) → is_format format ≡ true → format_rule d format aspect ≡ C.GoOn
+    (d : Direction) (format : ℕ) (aspect : TextureAspect) → is_format format ≡ true → format_rule d format aspect ≡ (Ok tt)
     → is_one (chosen_aspects format aspect) ≡ true → Figures format aspect
 unfolding is_format sheet.formats alike copyable
 figures d format aspect known goes one =

@@ -1,5 +1,6 @@
 -- The plan of an accepted copy with no size of 0, in the claim's own words.
 -- Assumes nothing.
+use Rattle.std.specs.Prelude.{Some}
 use mathlib.Core.Path.{◌≡◌, refl, sym, ◌∙◌}
 use mathlib.Core.Bool.{Bool, true, false, cond, ◌||◌, not}
 use Prim.Native.Nat.{ℕ, ◌+◌, ◌*◌, ◌<◌}
@@ -16,7 +17,6 @@ use Rattle.rule_init_ranges.specs.declared.MemoryInitKind.TheVariants.{Implicitl
 use Rattle.rule_init_ranges.specs.Init.{buffer_init, is_source, src_texture_range, dst_texture_range, texture_range, is_partial_cover}
 use Rattle.measures.specs.Measure.{is_empty}
 use Rattle.plan_buffer_texture.specs.declared.BufferTexturePlan.{BufferTexturePlan}
-use Rattle.plan_buffer_texture.specs.declared.CopyRanges.TheVariants.{Given}
 use Rattle.plan_buffer_texture.specs.Plan.{first_region, ranges_of, plan_of}
 use Rattle.copy_buffer_texture.specs.declared.UploadSource.TheVariants as S
 use Rattle.copy_buffer_texture.specs.Copy.{Direction, Upload, Download, Copy}
@@ -34,7 +34,7 @@ plan_of_copy c =
       region = region_at c 0;
       stride = image c;
       left = count c;
-      ranges = Given (R.texture_range c) (buffer_ranges c);
+      ranges = Some ((R.texture_range c), (buffer_ranges c));
       bytes_checked = total c;
     }
 

@@ -1,21 +1,22 @@
 -- A copy between a buffer, or memory, and a texture, its figures and its regions, from document 01's modules 4 and 8 and document 02's
 -- first request.
-use Rattle.std.specs.Prelude.{Bool, true, false, cond, List, [], ◌∷◌, ℕ, zero, suc, ◌+◌, ◌-◌, ◌*◌, ◌/◌, ◌^◌, ◌<◌, eqb}
+use Rattle.std.specs.Prelude.{Bool, true, false, cond, List, [], ◌∷◌, ℕ, zero, suc, ◌+◌, ◌-◌, ◌*◌, ◌/◌, ◌^◌, ◌<◌, eqb, Result}
 use Rattle.plan_buffer_texture.specs.declared.BufferTextureCopy.{BufferTextureCopy}
 use Rattle.copy_buffer_texture.specs.declared.UploadSource.TheVariants as S
-use Rattle.copy_buffer_texture.specs.declared.BufferTexturePlanned.{BufferTexturePlanned}
 use Rattle.copy_buffer_texture.specs.Copy.{Direction, Upload, Download, Copy}
 use Rattle.copy_buffer_texture.specs.Plan.{buffer_to_texture, memory_to_texture, texture_to_buffer}
 use Rattle.claim_ownership.specs.Formats.{block_side, chosen_bits, bytes_per_block}
 use Rattle.claim_ownership.specs.Regions.{or_dense}
+use Rattle.plan_buffer_texture.specs.declared.BufferTexturePlan.{BufferTexturePlan}
+use Rattle.refusals.specs.declared.TransferError.{TransferError}
 
 -- what the three plan functions' contracts give
-abbrev pub planned_by : Direction → Copy → BufferTexturePlanned
+abbrev pub planned_by : Direction → Copy → Result BufferTexturePlan TransferError
 planned_by (Upload (S.Buffer b)) c = buffer_to_texture c.device b c.layout c.texture c.view c.size
 planned_by (Upload (S.Memory length)) c = memory_to_texture c.device length c.layout c.texture c.view c.size
 planned_by (Download b) c = texture_to_buffer c.device c.texture c.view b c.layout c.size
 
-abbrev pub planned : Copy → BufferTexturePlanned
+abbrev pub planned : Copy → Result BufferTexturePlan TransferError
 planned c = planned_by c.direction c
 
 -- the texture is written: from a buffer or from memory

@@ -1,6 +1,6 @@
 -- Demand 3: what holds of every accepted copy between a buffer, or memory, and a texture with no size of 0, of all the regions that its
 -- plan hands back, of the ranges and of the required bytes that it reports. Every range is half-open.
-use Rattle.std.specs.Prelude.{◌≡◌, List, ◌∷◌, ◌⊎◌, ◌↔◌, ℕ, ◌+◌, ◌-◌, ◌*◌, ◌/◌, ◌^◌, ◌≤◌, ◌<◌, length, get_or}
+use Rattle.std.specs.Prelude.{◌≡◌, List, ◌∷◌, ◌⊎◌, ◌↔◌, ℕ, ◌+◌, ◌-◌, ◌*◌, ◌/◌, ◌^◌, ◌≤◌, ◌<◌, length, get_or, Some, Ok}
 use Rattle.rule_init_ranges.specs.declared.MemoryInitKind.{MemoryInitKind}
 use Rattle.rule_init_ranges.specs.declared.MemoryInitKind.TheVariants.{ImplicitlyInitialized, NeedsInitializedMemory}
 use Rattle.rule_init_ranges.specs.declared.BufferInitRange.{BufferInitRange}
@@ -8,8 +8,6 @@ use Rattle.plan_buffer_texture.specs.declared.BufferTextureCopy.{BufferTextureCo
 use Rattle.plan_buffer_texture.specs.declared.BufferTexturePlan.{BufferTexturePlan}
 use Rattle.records.specs.declared.Buffer.{Buffer}
 use Rattle.copy_buffer_texture.specs.declared.UploadSource.TheVariants as S
-use Rattle.copy_buffer_texture.specs.declared.BufferTexturePlanned.TheVariants.{Plan}
-use Rattle.plan_buffer_texture.specs.declared.CopyRanges.TheVariants.{Given}
 use Rattle.claim_ownership.specs.Regions.{Place, Within, Names, puts}
 use Rattle.claim_ownership.specs.Asking.{Gives}
 use Rattle.copy_buffer_texture.specs.Copy.{Upload, Download, Copy}
@@ -91,7 +89,7 @@ pub record Demand3 (c : Copy) (p : BufferTexturePlan) : Type 0 where
   -- ranges are the copy's and no others, and the bytes are those of the required span
   pub asked : (rs : List BufferTextureCopy) → Gives p rs ↔ (rs ≡ regions_of c)
   pub offsets : (n : ℕ) → n < count c → (region_at c n).offset < 2 ^ 64 - 1
-  pub reported : p.ranges ≡ Given (texture_range c) (buffer_ranges c)
+  pub reported : p.ranges ≡ Some ((texture_range c), (buffer_ranges c))
   pub required : p.bytes_checked ≡ total c
   -- each block is named by exactly one of the regions that asking gave, which puts it at the bytes it owns; none of them names a
   -- place outside the box
@@ -107,5 +105,5 @@ pub record Demand3 (c : Copy) (p : BufferTexturePlan) : Type 0 where
 -- are above 0
 abbrev pub EveryCopy : Type 0
 EveryCopy =
-    (c : Copy) (p : BufferTexturePlan) → LengthFits c.direction → planned c ≡ Plan p
+    (c : Copy) (p : BufferTexturePlan) → LengthFits c.direction → planned c ≡ Ok p
     → 0 < c.size.width.0 → 0 < c.size.height.0 → 0 < depth c → Demand3 c p

@@ -1,16 +1,12 @@
 -- The ranges of a copy between a buffer, or memory, and a texture, from document 01's module 7 and document 02's first request, and those
 -- that a plan reports.
-use Rattle.std.specs.Prelude.{Bool, cond, ◌&&◌, ◌||◌, not, List, [], ◌∷◌, ℕ, ◌+◌, ◌-◌, ◌/◌, ◌%◌, ◌^◌, max, eqb, leb}
+use Rattle.std.specs.Prelude.{Bool, cond, ◌&&◌, ◌||◌, not, List, [], ◌∷◌, ℕ, ◌+◌, ◌-◌, ◌/◌, ◌%◌, ◌^◌, max, eqb, leb, Option, Some, None}
 use Rattle.measures.specs.declared.Range.{Range}
 use Rattle.rule_init_ranges.specs.declared.MemoryInitKind.{MemoryInitKind}
 use Rattle.rule_init_ranges.specs.declared.MemoryInitKind.TheVariants.{ImplicitlyInitialized, NeedsInitializedMemory}
 use Rattle.rule_init_ranges.specs.declared.TextureInitRange.{TextureInitRange}
 use Rattle.rule_init_ranges.specs.declared.BufferInitRange.{BufferInitRange}
-use Rattle.rule_init_ranges.specs.declared.OptionRange.{OptionRange}
-use Rattle.rule_init_ranges.specs.declared.OptionRange.TheVariants.{Given, Absent}
 use Rattle.rule_init_ranges.specs.declared.BufferInitRanges.{BufferInitRanges}
-use Rattle.plan_buffer_texture.specs.declared.CopyRanges.{CopyRanges}
-use Rattle.plan_buffer_texture.specs.declared.CopyRanges.TheVariants as N
 use Rattle.claim_ownership.specs.Formats.{is_all}
 use Rattle.copy_buffer_texture.specs.declared.UploadSource.TheVariants as S
 use Rattle.copy_buffer_texture.specs.Copy.{Direction, Upload, Download, Copy}
@@ -60,26 +56,26 @@ down n = n - n % 4
 abbrev pub up : ℕ → ℕ
 up n = down (n + 3)
 
-abbrev pub run : ℕ → ℕ → MemoryInitKind → OptionRange
-run start end kind = Given (record { start = start; end = end; kind = kind })
+abbrev pub run : ℕ → ℕ → MemoryInitKind → Option BufferInitRange
+run start end kind = Some (record { start = start; end = end; kind = kind })
 
 -- read, or with padding between: the words that the span touches
 unfoldable pub touched : ℕ → ℕ → BufferInitRanges
-touched start end = record { head = Absent; whole = run (down start) (up end) NeedsInitializedMemory; tail = Absent }
+touched start end = record { head = None; whole = run (down start) (up end) NeedsInitializedMemory; tail = None }
 
 -- written without: the word it starts within, the whole words, which may run backward, the word it ends within
 unfoldable pub filled : ℕ → ℕ → BufferInitRanges
 filled start end =
     record {
-      head = cond (eqb (start % 4) 0) Absent (run (up start - 4) (up start) NeedsInitializedMemory);
-      whole = cond (eqb (up start) (down end)) Absent (run (up start) (down end) ImplicitlyInitialized);
-      tail = cond (eqb (end % 4) 0) Absent (run (down end) (down end + 4) NeedsInitializedMemory);
+      head = cond (eqb (start % 4) 0) None (run (up start - 4) (up start) NeedsInitializedMemory);
+      whole = cond (eqb (up start) (down end)) None (run (up start) (down end) ImplicitlyInitialized);
+      tail = cond (eqb (end % 4) 0) None (run (down end) (down end + 4) NeedsInitializedMemory);
     }
 
 -- of the buffer that is read, or written; memory has none
 abbrev pub ranges_by : Direction → Copy → BufferInitRanges
 ranges_by (Upload (S.Buffer b)) c = touched c.layout.offset (c.layout.offset + total c)
-ranges_by (Upload (S.Memory length)) c = record { head = Absent; whole = Absent; tail = Absent }
+ranges_by (Upload (S.Memory length)) c = record { head = None; whole = None; tail = None }
 ranges_by (Download b) c =
     cond (contiguous c) (filled c.layout.offset (c.layout.offset + total c)) (touched c.layout.offset (c.layout.offset + total c))
 
@@ -88,10 +84,10 @@ buffer_ranges c = ranges_by c.direction c
 
 -- ---- those that are there, in order
 
-unfoldable pub joined : OptionRange → List BufferInitRange → List BufferInitRange
-joined Absent rest = rest
-joined (Given r) rest = r ∷ rest
+unfoldable pub joined : Option BufferInitRange → List BufferInitRange → List BufferInitRange
+joined None rest = rest
+joined (Some r) rest = r ∷ rest
 
-abbrev pub listed : CopyRanges → List BufferInitRange
-listed N.Absent = []
-listed (N.Given texture buffer) = joined buffer.head (joined buffer.whole (joined buffer.tail []))
+abbrev pub listed : Option (TextureInitRange × BufferInitRanges) → List BufferInitRange
+listed None = []
+listed (Some (texture, buffer)) = joined buffer.head (joined buffer.whole (joined buffer.tail []))

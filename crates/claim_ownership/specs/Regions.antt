@@ -1,7 +1,5 @@
 -- What a region of a copy between a buffer, or memory, and a texture means, from document 01's module 8, for blocks of any size.
-use Rattle.std.specs.Prelude.{◌≡◌, ℕ, ◌+◌, ◌-◌, ◌*◌, ◌/◌, ◌≤◌, ◌<◌}
-use Rattle.measures.specs.declared.OptionU32.{OptionU32}
-use Rattle.measures.specs.declared.OptionU32.TheVariants.{Given, Absent}
+use Rattle.std.specs.Prelude.{◌≡◌, ℕ, ◌+◌, ◌-◌, ◌*◌, ◌/◌, ◌≤◌, ◌<◌, Option, Some, None}
 use Rattle.plan_buffer_texture.specs.declared.BufferTextureCopy.{BufferTextureCopy}
 
 -- where a block starts in a texture
@@ -26,9 +24,9 @@ pub record Names (r : BufferTextureCopy) (p : Place) : Type 0 where
   pub z : Within p.z r.base.origin.z r.size.depth
 
 -- an absent value counts as the dense one
-unfoldable pub or_dense : OptionU32 → ℕ → ℕ
-or_dense (Given n) dense = n
-or_dense Absent dense = dense
+unfoldable pub or_dense : Option ℕ → ℕ → ℕ
+or_dense (Some n) dense = n
+or_dense None dense = dense
 
 -- the byte at which a region puts the block at a place: module 4's formula, i, j, k from its own start, with its offset, bytes and
 -- rows

@@ -1,13 +1,12 @@
 -- The starred points of document 01, with the listings that it gives, and a point of copies from memory (document 02's first request), whose
 -- listing was worked out by hand; one list.
-use Rattle.std.specs.Prelude.{◌≡◌, List, [], ◌∷◌, map, ℕ, get_or}
+use Rattle.std.specs.Prelude.{◌≡◌, Ok, List, [], ◌∷◌, map, ℕ, get_or}
 use Prim.Native.String.{String}
 use Rattle.measures.specs.declared.Extent3d.{Extent3d}
 use Rattle.records.specs.declared.Device.{Device}
 use Rattle.records.specs.declared.TextureSide.{TextureSide}
 use Rattle.sheet_fields.specs.declared.Line.{Line}
 use Rattle.sheet_sections.specs.declared.Parts.{Parts}
-use Rattle.sheet_sections.specs.declared.Sheet.TheVariants.{Good}
 use Rattle.sheet_sections.specs.Rows.{textures, copies, section_line, places_of}
 use Rattle.sheet_sections.specs.Sheet.{sheet_of}
 use Rattle.copy_kinds.specs.Planned.{planned_textures}
@@ -111,9 +110,9 @@ module _ (s : List ℕ) (p : Parts) where
 
 -- it is what its sheet asks for and what is answered there, it is accepted, and the standard refuses it, however it is read
 pub record RefusedByStandard : Type 0 where
-  pub asked : (p : Parts) → sheet_of (bytes (point 7).sheet) ≡ Good p → asks (bytes (point 7).sheet) p ≡ volume
+  pub asked : (p : Parts) → sheet_of (bytes (point 7).sheet) ≡ Ok p → asks (bytes (point 7).sheet) p ≡ volume
   pub answered :
-      (p : Parts) → sheet_of (bytes (point 7).sheet) ≡ Good p → (buffers : List ℕ) (device : Device)
+      (p : Parts) → sheet_of (bytes (point 7).sheet) ≡ Ok p → (buffers : List ℕ) (device : Device)
       → line_planned (bytes (point 7).sheet) (places (bytes (point 7).sheet) p) buffers device (line (bytes (point 7).sheet) p)
       ≡ planned_textures volume.src_index volume.src volume.dst_index volume.dst volume.size
   pub accepted : PlansTextures volume.src_index volume.dst_index volume.src volume.dst volume.size

@@ -1,5 +1,6 @@
 -- A check for the level is never met after the check of the range.
 -- Assumes nothing.
+use Rattle.std.specs.Prelude.{Result, Ok}
 use mathlib.Core.Path.{◌≡◌, refl, sym, ap, ◌∙◌}
 use mathlib.Core.List.{List, [], ◌∷◌}
 use Prim.Native.Nat.{ℕ, zero, suc, ◌<◌}
@@ -13,17 +14,16 @@ use Rattle.refusals.specs.Order.{Checks, refuse_if, first, decided}
 use Rattle.refusals.proofs.Order.{test_off}
 use Rattle.records.specs.declared.Buffer.{Buffer}
 use Rattle.rule_copy_range.proofs.Accepted.{every_range}
-use Rattle.copy_buffer_texture.specs.declared.BufferTexturePlanned.{BufferTexturePlanned}
-use Rattle.copy_buffer_texture.specs.declared.BufferTexturePlanned.TheVariants as P
+use Rattle.plan_buffer_texture.specs.declared.BufferTexturePlan.{BufferTexturePlan}
 use Rattle.copy_buffer_texture.specs.Copy.{Direction, Copy}
 use Rattle.copy_buffer_texture.specs.Plan.{download_checks, checks_of, plan_for, planned}
 use Rattle.claim_refusals.specs.Second.{also_asked, EverySecondLevelCheck}
 
 -- ---- a check that finds nothing where an earlier one does not
 
-module _ (answer : BufferTexturePlanned) where
-  abbrev answered : Checks → BufferTexturePlanned
-  answered checks = decided checks P.Refused answer
+module _ (answer : Result BufferTexturePlan TransferError) where
+  abbrev answered : Checks → Result BufferTexturePlan TransferError
+  answered checks = decided checks answer
 
   nothing_more : (n : ℕ) (checks : Checks) → answered (also_asked n [] checks) ≡ answered checks
   unfolding decided first
@@ -49,5 +49,5 @@ no_level c b e h = test_off _ e (lt-leb _ _ ((every_range c.view c.texture Sourc
 pub every_second_level_check : EverySecondLevelCheck
 unfolding planned
 every_second_level_check c b e n way l =
-    let plan = P.Plan (plan_for c) in
-    never_met plan 2 n _ (download_checks b c) (omega (arith, l)) (no_level c b e) ∙ sym (ap (λ (d : Direction). decided (checks_of d c) P.Refused plan) way)
+    let plan = Ok (plan_for c) in
+    never_met plan 2 n _ (download_checks b c) (omega (arith, l)) (no_level c b e) ∙ sym (ap (λ (d : Direction). decided (checks_of d c) plan) way)

@@ -1,5 +1,6 @@
 -- A level that a texture does not have is refused as such (13), with the level and how many there are. Records out of their bounds are refused
 -- before.
+use Rattle.std.specs.Prelude.{Result, Err}
 use mathlib.Core.Path.{◌≡◌}
 use Prim.Native.Nat.{ℕ, ◌≤◌}
 use Rattle.measures.specs.declared.Extent3d.{Extent3d}
@@ -10,8 +11,7 @@ use Rattle.records.specs.declared.Device.{Device}
 use Rattle.records.specs.declared.Texture.{Texture}
 use Rattle.records.specs.declared.TexelCopyTextureInfo.{TexelCopyTextureInfo}
 use Rattle.records.specs.declared.TexelCopyBufferLayout.{TexelCopyBufferLayout}
-use Rattle.copy_buffer_texture.specs.declared.BufferTexturePlanned.{BufferTexturePlanned}
-use Rattle.copy_buffer_texture.specs.declared.BufferTexturePlanned.TheVariants as B
+use Rattle.plan_buffer_texture.specs.declared.BufferTexturePlan.{BufferTexturePlan}
 use Rattle.claim_webgpu_copies.specs.Bounds.{BufferInBounds, TextureInBounds}
 -- what is judged: the answers, and the six numbers of a refusal
 use Rattle.refusals.specs.Numbers.{numbers_of}
@@ -21,8 +21,8 @@ abbrev pub no_level : TexelCopyTextureInfo → Texture → Refusal
 no_level view t =
     record { number = 13; side = 0; dimension = 0; start = view.mip_level; end = 0; limit = t.mip_level_count }
 
-abbrev pub RefusedWith : Refusal → BufferTexturePlanned → Type 0
-RefusedWith n answer = (e : TransferError) × (answer ≡ B.Refused e) × (numbers_of e ≡ n)
+abbrev pub RefusedWith : Refusal → Result BufferTexturePlan TransferError → Type 0
+RefusedWith n answer = (e : TransferError) × (answer ≡ Err e) × (numbers_of e ≡ n)
 
 -- a copy of a texture within its bounds and of a level that it does not have
 pub record MissingLevel (t : Texture) (view : TexelCopyTextureInfo) : Type 0 where

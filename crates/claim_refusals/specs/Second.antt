@@ -1,4 +1,5 @@
 -- The Rust asks for the level of a copy into a buffer again, after the texture's usage. After the check of the range such a check is never met.
+use Rattle.std.specs.Prelude.{Ok}
 use mathlib.Core.Path.{◌≡◌}
 use mathlib.Core.List.{List, [], ◌∷◌}
 use Prim.Native.Nat.{ℕ, zero, suc, ◌≤◌}
@@ -6,8 +7,7 @@ use lib.Dec.{leb}
 use Rattle.refusals.specs.declared.TransferError.{TransferError}
 use Rattle.refusals.specs.Order.{Checks, refuse_if, decided}
 use Rattle.records.specs.declared.Buffer.{Buffer}
-use Rattle.copy_buffer_texture.specs.declared.BufferTexturePlanned.TheVariants as P
-use Rattle.copy_buffer_texture.specs.Copy.{Direction, Download, Copy}
+use Rattle.copy_buffer_texture.specs.Copy.{Download, Copy}
 use Rattle.copy_buffer_texture.specs.Plan.{download_checks, plan_for, planned}
 
 -- an order of checks with one more after its first n
@@ -20,4 +20,4 @@ also_asked (suc n) found (check ∷ checks) = check ∷ also_asked n found check
 abbrev pub EverySecondLevelCheck : Type 0
 EverySecondLevelCheck =
     (c : Copy) (b : Buffer) (e : TransferError) (n : ℕ) → c.direction ≡ Download b → 3 ≤ n
-    → decided (also_asked n (refuse_if (leb c.texture.mip_level_count c.view.mip_level) e) (download_checks b c)) P.Refused (P.Plan (plan_for c)) ≡ planned c
+    → decided (also_asked n (refuse_if (leb c.texture.mip_level_count c.view.mip_level) e) (download_checks b c)) (Ok (plan_for c)) ≡ planned c

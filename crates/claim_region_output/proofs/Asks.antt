@@ -1,5 +1,6 @@
 -- What asking a plan gives, beside the plan's own count and numbers.
 -- Assumes nothing.
+use Rattle.std.specs.Prelude.{Option, Some, None}
 use mathlib.Core.Path.{◌≡◌, refl, sym, ap, ◌∙◌}
 use mathlib.Core.Bool.{Bool, true, false}
 use mathlib.Core.List.{List, [], ◌∷◌, flat_map}
@@ -10,8 +11,6 @@ use borrow.Author.Tests.{eq-eqb, ne_eqb, eqb-true, eqb-false}
 use lib.Dec.{eqb}
 use lib.ListN.{length, length-append}
 use Rattle.conditions.specs.Conditions.{stop_if}
-use Rattle.measures.specs.declared.OptionU32.{OptionU32}
-use Rattle.measures.specs.declared.OptionU32.TheVariants.{Given, Absent}
 use Rattle.plan_rows.specs.Rows.{or_absent, buffer_copy_numbers, buffer_texture_copy_numbers, texture_copy_numbers}
 use Rattle.plan_buffers.specs.Asking as K
 use Rattle.plan_buffer_texture.specs.Asking as L
@@ -54,10 +53,10 @@ next (Buffers p) = buffers p.region
 next (BufferTexture p) = buffer_texture p.region
 next (Textures p) = textures (X.region_of p.parts p)
 
-slot_optional : (o : OptionU32) → or_absent o ≡ slot (optional o)
+slot_optional : (o : Option ℕ) → or_absent o ≡ slot (optional o)
 unfolding or_absent slot optional
-slot_optional (Given n) = refl
-slot_optional Absent = refl
+slot_optional (Some n) = refl
+slot_optional None = refl
 
 at_more : (p : Plan) → 0 < left_of p → (answer p ≡ region (next p)) × (region_numbers p ≡ row (next p))
 unfolding left_of answer region_numbers buffers_answer buffer_texture_answer textures_answer K.next_of L.next_of X.next_of stop_if buffer_numbers buffer_texture_numbers texture_numbers buffer_copy_numbers buffer_texture_copy_numbers texture_copy_numbers row numbers slot

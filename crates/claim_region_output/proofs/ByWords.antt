@@ -1,5 +1,6 @@
 -- A plan's words give the regions that asking the plan gives.
 -- Assumes nothing.
+use Rattle.std.specs.Prelude.{Option, Some, None}
 use Prim.{tt}
 use mathlib.Core.Path.{◌≡◌, refl, sym, ap, ◌∙◌}
 use mathlib.Core.List.{List, [], ◌∷◌, ◌++◌, map, flat_map}
@@ -7,8 +8,6 @@ use Prim.Native.Nat.{ℕ, zero, suc, ◌^◌, ◌≤◌, ◌<◌}
 use native.Mathlib.Omega.{arith}
 use borrow.Author.Tests.{eq-eqb, ne_eqb, le-leb, lt-leb}
 use lib.ListN.{length}
-use Rattle.measures.specs.declared.OptionU32.{OptionU32}
-use Rattle.measures.specs.declared.OptionU32.TheVariants.{Given, Absent}
 use Rattle.plan_rows.specs.Rows.{base_numbers as baseRow, size_numbers}
 use Rattle.plan_kinds.specs.declared.Plan.{Plan}
 use Rattle.plan_kinds.specs.declared.Plan.TheVariants.{Buffers, BufferTexture, Textures}
@@ -79,12 +78,12 @@ narrow_given : (ns rest : List ℕ) → Below (2 ^ 32) (map given ns) → Narrow
 narrow_given [] rest h r = r
 narrow_given (n ∷ ns) rest h r = (h.0, narrow_given ns rest h.1 r)
 
-narrow_options : (a b : OptionU32) (ns : List Number) → Below (2 ^ 32) (optional a ∷ optional b ∷ ns) → Narrow (given_numbers a ++ given_numbers b) × Below (2 ^ 32) ns
+narrow_options : (a b : Option ℕ) (ns : List Number) → Below (2 ^ 32) (optional a ∷ optional b ∷ ns) → Narrow (given_numbers a ++ given_numbers b) × Below (2 ^ 32) ns
 unfolding optional
-narrow_options (Given a) (Given b) ns h = ((h.0, (h.1.0, tt)), h.1.1)
-narrow_options (Given a) Absent ns h = ((h.0, tt), h.1)
-narrow_options Absent (Given b) ns h = ((h.0, tt), h.1)
-narrow_options Absent Absent ns h = (tt, h)
+narrow_options (Some a) (Some b) ns h = ((h.0, (h.1.0, tt)), h.1.1)
+narrow_options (Some a) None ns h = ((h.0, tt), h.1)
+narrow_options None (Some b) ns h = ((h.0, tt), h.1)
+narrow_options None None ns h = (tt, h)
 
 narrowed : (p : Plan) → Below (2 ^ 32) (narrow p) → Narrow (narrow_numbers p)
 unfolding narrow narrow_numbers

@@ -1,5 +1,6 @@
 -- The plan of an accepted copy of each kind.
 -- Assumes nothing.
+use Rattle.std.specs.Prelude.{Option, Result, Ok, Err}
 use Prim.{Unit, tt}
 use mathlib.Core.Path.{◌≡◌, refl}
 use mathlib.Core.Bool.{Bool, true, false, cond, ◌||◌}
@@ -12,7 +13,6 @@ use borrow.Author.Tests.{eqb-false}
 use Rattle.conditions.specs.Conditions.{pick}
 use Rattle.conditions.proofs.Rules.{neither}
 use Rattle.measures.specs.declared.Extent3d.{Extent3d}
-use Rattle.measures.specs.declared.OptionU64.{OptionU64}
 use Rattle.measures.specs.Measure.{lesser_of, is_empty}
 use Rattle.records.specs.declared.Buffer.{Buffer}
 use Rattle.records.specs.declared.Device.{Device}
@@ -25,16 +25,12 @@ use Rattle.rule_copy_range.specs.Range.{layer_count_of}
 use Rattle.rule_linear_data.specs.Linear.{data_of}
 use Rattle.plan_buffers.specs.declared.BufferPlan.{BufferPlan}
 use Rattle.plan_buffers.specs.Plan as K
-use Rattle.copy_buffers.specs.declared.BufferPlanned.{BufferPlanned}
-use Rattle.copy_buffers.specs.declared.BufferPlanned.TheVariants as B
 use Rattle.copy_buffers.specs.Copy as D
 use Rattle.copy_buffers.specs.Plan.{buffer_to_buffer}
 use Rattle.copy_buffers.proofs.Accepted.{every_copy_law as buffers-law}
 use Rattle.plan_buffer_texture.specs.declared.BufferTexturePlan.{BufferTexturePlan}
 use Rattle.plan_buffer_texture.specs.Plan.{first_region, plan_of}
 use Rattle.copy_buffer_texture.specs.declared.UploadSource.TheVariants as S
-use Rattle.copy_buffer_texture.specs.declared.BufferTexturePlanned.{BufferTexturePlanned}
-use Rattle.copy_buffer_texture.specs.declared.BufferTexturePlanned.TheVariants as U
 use Rattle.copy_buffer_texture.specs.Copy.{Direction, Upload, Download, Copy}
 use Rattle.copy_buffer_texture.specs.Plan.{plan_for, buffer_to_texture, memory_to_texture, texture_to_buffer}
 use Rattle.claim_ownership.specs.Copy as O
@@ -44,8 +40,6 @@ use Rattle.claim_ownership.proofs.Planned.{plan_is}
 use Rattle.records.specs.declared.TextureSide.{TextureSide}
 use Rattle.plan_textures.specs.declared.TexturePlan.{TexturePlan}
 use Rattle.plan_textures.specs.Plan as X
-use Rattle.copy_textures.specs.declared.TexturePlanned.{TexturePlanned}
-use Rattle.copy_textures.specs.declared.TexturePlanned.TheVariants as T
 use Rattle.copy_textures.specs.Copy as Y
 use Rattle.copy_textures.specs.Plan.{texture_to_texture}
 use Rattle.copy_textures.proofs.Accepted.{every_copy_law as textures-law}
@@ -53,20 +47,21 @@ use Rattle.claim_region_output.specs.Asking.{buffers}
 use Rattle.claim_region_output.specs.Numbers.{optional, sides, numbers}
 use Rattle.claim_region_output.proofs.Kept.{Small, FitBufferTexture, FitTextures}
 use Rattle.claim_region_output.proofs.Accepted.{Figures, base_small, extent_small}
+use Rattle.refusals.specs.declared.TransferError.{TransferError}
 
 -- ---- between buffers
 
-unfoldable pub BuffersFit : BufferPlanned → Type 0
-BuffersFit (B.Plan p) = 0 < p.left → Small (numbers (buffers p.region))
-BuffersFit (B.Refused e) = Unit {0}
+unfoldable pub BuffersFit : Result BufferPlan TransferError → Type 0
+BuffersFit (Ok p) = 0 < p.left → Small (numbers (buffers p.region))
+BuffersFit (Err e) = Unit {0}
 
-buffers_by : (r : BufferPlanned) → ((p : BufferPlan) → r ≡ B.Plan p → 0 < p.left → Small (numbers (buffers p.region))) → BuffersFit r
+buffers_by : (r : Result BufferPlan TransferError) → ((p : BufferPlan) → r ≡ Ok p → 0 < p.left → Small (numbers (buffers p.region))) → BuffersFit r
 unfolding BuffersFit
-buffers_by (B.Plan p) h = h p refl
-buffers_by (B.Refused e) h = tt
+buffers_by (Ok p) h = h p refl
+buffers_by (Err e) h = tt
 
 pub buffers_fit :
-    (device : Device) (i : ℕ) (src : Buffer) (from j : ℕ) (dst : Buffer) (to : ℕ) (size : OptionU64) → BuffersFit (buffer_to_buffer device i src from j dst to size)
+    (device : Device) (i : ℕ) (src : Buffer) (from j : ℕ) (dst : Buffer) (to : ℕ) (size : Option ℕ) → BuffersFit (buffer_to_buffer device i src from j dst to size)
 unfolding buffer_to_buffer K.plan_of numbers
 buffers_fit device i src from j dst to size =
     let c : D.Copy = record { device = device; src_index = i; src = src; src_offset = from; dst_index = j; dst = dst; dst_offset = to; size = size } in
@@ -78,14 +73,14 @@ buffers_fit device i src from j dst to size =
 
 -- ---- between a buffer, or memory, and a texture
 
-unfoldable pub BufferTextureFit : BufferTexturePlanned → Type 0
-BufferTextureFit (U.Plan p) = 0 < p.left → FitBufferTexture p
-BufferTextureFit (U.Refused e) = Unit {0}
+unfoldable pub BufferTextureFit : Result BufferTexturePlan TransferError → Type 0
+BufferTextureFit (Ok p) = 0 < p.left → FitBufferTexture p
+BufferTextureFit (Err e) = Unit {0}
 
-copy_by : (r : BufferTexturePlanned) → ((p : BufferTexturePlan) → r ≡ U.Plan p → 0 < p.left → FitBufferTexture p) → BufferTextureFit r
+copy_by : (r : Result BufferTexturePlan TransferError) → ((p : BufferTexturePlan) → r ≡ Ok p → 0 < p.left → FitBufferTexture p) → BufferTextureFit r
 unfolding BufferTextureFit
-copy_by (U.Plan p) h = h p refl
-copy_by (U.Refused e) h = tt
+copy_by (Ok p) h = h p refl
+copy_by (Err e) h = tt
 
 -- a copy that is not empty has every size
 sizes_some : (size : Extent3d) → is_empty size ≡ false → (0 < size.width.0) × (0 < size.height.0) × (0 < size.depth_or_array_layers)
@@ -104,7 +99,7 @@ not_empty false n h = refl
 
 module _ (c : Copy) (fits : O.LengthFits c.direction) (f : Figures c.view c.size) (bytes : Small (optional c.layout.bytes_per_row ∷ [])) (rows : Small (optional c.layout.rows_per_image ∷ [])) where
   -- the last region's offset, by demand 3
-  last_below : (p : BufferTexturePlan) → O.planned c ≡ U.Plan p → is_empty c.size ≡ false → p.region.offset + (p.left - 1) * p.stride < 2 ^ 64 - 1
+  last_below : (p : BufferTexturePlan) → O.planned c ≡ Ok p → is_empty c.size ≡ false → p.region.offset + (p.left - 1) * p.stride < 2 ^ 64 - 1
   last_below p e full =
       let z = sizes_some c.size full in
       let below = (every_copy c p fits e z.0 z.1 z.2).offsets (O.count c - 1) (some (O.is_2d c) (O.depth c) z.2) in
@@ -114,7 +109,7 @@ module _ (c : Copy) (fits : O.LengthFits c.direction) (f : Figures c.view c.size
       some true n h = omega arith
       some false n h = omega arith
 
-  plan_fits : (p : BufferTexturePlan) → O.planned c ≡ U.Plan p → 0 < p.left → FitBufferTexture p
+  plan_fits : (p : BufferTexturePlan) → O.planned c ≡ Ok p → 0 < p.left → FitBufferTexture p
   unfolding plan_for plan_of first_region layer_count_of data_of
   plan_fits p e left =
       let k = checks_of_lem c p e in
@@ -146,14 +141,14 @@ module _ (device : Device) (layout : TexelCopyBufferLayout) (t : Texture) (view 
 
 -- ---- between textures
 
-unfoldable pub TexturesFit : TexturePlanned → Type 0
-TexturesFit (T.Plan p) = FitTextures p
-TexturesFit (T.Refused e) = Unit {0}
+unfoldable pub TexturesFit : Result TexturePlan TransferError → Type 0
+TexturesFit (Ok p) = FitTextures p
+TexturesFit (Err e) = Unit {0}
 
-textures_by : (r : TexturePlanned) → ((p : TexturePlan) → r ≡ T.Plan p → FitTextures p) → TexturesFit r
+textures_by : (r : Result TexturePlan TransferError) → ((p : TexturePlan) → r ≡ Ok p → FitTextures p) → TexturesFit r
 unfolding TexturesFit
-textures_by (T.Plan p) h = h p refl
-textures_by (T.Refused e) h = tt
+textures_by (Ok p) h = h p refl
+textures_by (Err e) h = tt
 
 lesser_small : (a b : CopyExtent) → Small (sides a) → Small (sides (X.lesser a b))
 unfolding X.lesser lesser_of

@@ -1,6 +1,7 @@
 -- An accepted copy has few regions: 32 bits count them.
 -- Assumes nothing.
-use mathlib.Core.Path.{◌≡◌, sym}
+use Rattle.std.specs.Prelude.{Option, Ok}
+use mathlib.Core.Path.{◌≡◌}
 use mathlib.Core.Bool.{Bool, true, false}
 use Prim.Native.Nat.{ℕ, ◌*◌, ◌^◌, ◌≤◌, ◌<◌}
 use native.Mathlib.Omega.{arith}
@@ -8,7 +9,6 @@ use native.Mathlib.Nat.{mul-le-mul_right}
 use lib.Dec.{eqb}
 use Rattle.conditions.specs.Conditions.{pick}
 use Rattle.measures.specs.declared.Extent3d.{Extent3d}
-use Rattle.measures.specs.declared.OptionU64.{OptionU64}
 use Rattle.measures.specs.Measure.{is_empty, physical_size, round_up}
 use Rattle.mip_levels.specs.declared.TextureDimension.{TextureDimension}
 use Rattle.mip_levels.specs.declared.TextureDimension.TheVariants.{D1, D2, D3}
@@ -26,20 +26,17 @@ use Rattle.rule_copy_range.specs.Range.{layers_of, layer_count_of}
 use Rattle.rule_copy_range.specs.Laws.{RangeLaws}
 use Rattle.plan_buffers.specs.declared.BufferPlan.{BufferPlan}
 use Rattle.plan_buffers.specs.Plan as K
-use Rattle.copy_buffers.specs.declared.BufferPlanned.TheVariants as B
 use Rattle.copy_buffers.specs.Copy as D
 use Rattle.copy_buffers.specs.Plan.{bytes, buffer_to_buffer}
 use Rattle.copy_buffers.proofs.Accepted.{every_copy_law as buffers-law}
 use Rattle.plan_buffer_texture.specs.declared.BufferTexturePlan.{BufferTexturePlan}
 use Rattle.plan_buffer_texture.specs.Plan as L
-use Rattle.copy_buffer_texture.specs.declared.BufferTexturePlanned.TheVariants as U
 use Rattle.copy_buffer_texture.specs.Copy.{Copy}
 use Rattle.copy_buffer_texture.specs.Plan as C
 use Rattle.plan_textures.specs.declared.CopyParts.{CopyParts}
 use Rattle.plan_textures.specs.declared.CopyParts.TheVariants.{Whole, DepthStencil, Planes}
 use Rattle.plan_textures.specs.declared.TexturePlan.{TexturePlan}
 use Rattle.plan_textures.specs.Plan as X
-use Rattle.copy_textures.specs.declared.TexturePlanned.TheVariants as T
 use Rattle.copy_textures.specs.Copy as Y
 use Rattle.copy_textures.specs.Plan.{texture_to_texture}
 use Rattle.copy_textures.proofs.Accepted.{every_copy_law as textures-law}
@@ -68,21 +65,21 @@ parts_few Whole = omega arith
 parts_few DepthStencil = omega arith
 parts_few Planes = omega arith
 
-pub buffers_few : (device : Device) (i j : ℕ) (src dst : Buffer) (from to : ℕ) (size : OptionU64) (p : BufferPlan) → buffer_to_buffer device i src from j dst to size ≡ B.Plan p → p.left < 2 ^ 32
+pub buffers_few : (device : Device) (i j : ℕ) (src dst : Buffer) (from to : ℕ) (size : Option ℕ) (p : BufferPlan) → buffer_to_buffer device i src from j dst to size ≡ Ok p → p.left < 2 ^ 32
 unfolding buffer_to_buffer K.plan_of
 buffers_few device i j src dst from to size p e =
     let c : D.Copy = record { device = device; src_index = i; src = src; src_offset = from; dst_index = j; dst = dst; dst_offset = to; size = size } in
     let a = (buffers-law c).is_accepted p e in
     rw (← a.1) (omega (arith, at_most (eqb (bytes c) 0) 1 1 (omega arith)))
 
-pub copy_few : (c : Copy) (p : BufferTexturePlan) → planned c ≡ U.Plan p → p.left < 2 ^ 32
+pub copy_few : (c : Copy) (p : BufferTexturePlan) → planned c ≡ Ok p → p.left < 2 ^ 32
 unfolding C.plan_for L.plan_of
 copy_few c p e =
     let k = checks_of_lem c p e in
     let n = layers_few c.view c.texture c.size k.accepted.texture_bounds k.accepted.range in
     rw (← k.plan) (omega (arith, at_most (is_empty c.size) (layer_count_of c.texture c.size) max_side3d n))
 
-pub textures_few : (i : ℕ) (src : TextureSide) (j : ℕ) (dst : TextureSide) (size : Extent3d) (p : TexturePlan) → texture_to_texture i src j dst size ≡ T.Plan p → p.left < 2 ^ 32
+pub textures_few : (i : ℕ) (src : TextureSide) (j : ℕ) (dst : TextureSide) (size : Extent3d) (p : TexturePlan) → texture_to_texture i src j dst size ≡ Ok p → p.left < 2 ^ 32
 unfolding Y.plan_for X.plan_of
 textures_few i src j dst size p e =
     let a = (textures-law (Y.between i src j dst size)).is_accepted p e in

@@ -1,5 +1,6 @@
 -- The listing prints the regions that asking gives.
 -- Assumes nothing.
+use Rattle.std.specs.Prelude.{Option, Some, None}
 use mathlib.Core.Path.{◌≡◌, refl, sym, ◌∙◌}
 use mathlib.Core.Bool.{Bool, true, false, cond}
 use mathlib.Core.List.{List, [], ◌∷◌, ◌++◌, map, flat_map, append_assoc, append-nil}
@@ -18,8 +19,8 @@ use Rattle.sheet_text.specs.Text as D
 use Rattle.plan_kinds.specs.declared.Plan.{Plan}
 use Rattle.plan_kinds.specs.declared.Plan.TheVariants.{Buffers, BufferTexture, Textures}
 use Rattle.plan_kinds.specs.Regions.{checked_bytes_of as planBytes, region_numbers}
-use Rattle.copy_kinds.specs.declared.RangeSlot.{RangeSlot}
-use Rattle.copy_kinds.specs.declared.RangeSlot.TheVariants.{Texture, Buffer, Absent}
+use Rattle.copy_kinds.specs.declared.InitRange.{InitRange}
+use Rattle.copy_kinds.specs.declared.InitRange.TheVariants.{Texture, Buffer}
 use Rattle.copy_kinds.specs.declared.Ranges.{Ranges}
 use Rattle.copy_kinds.specs.Ranges.{slot_count, count_of}
 use Rattle.sheet_lines.specs.Lines.{range_text, ranges_text, copy_text, plan_text, answer_text, region_text}
@@ -97,11 +98,11 @@ unfolding flat_map
 joined_both [] ls = refl
 joined_both (k ∷ ks) ls = rw (joined_both ks ls) (sym (append_assoc k (joined ks) (joined ls)))
 
-range_line_lem : (slot : RangeSlot) → (range_text slot ≡ joined (range_line slot)) × (slot_count slot ≡ length (range_line slot))
+range_line_lem : (slot : Option InitRange) → (range_text slot ≡ joined (range_line slot)) × (slot_count slot ≡ length (range_line slot))
 unfolding range_text range_line slot_count line_text line text texture_range_numbers buffer_range_numbers flat_map
-range_line_lem (Texture i r) = rw (append-nil, kind_same r.kind, plain) (refl, refl)
-range_line_lem (Buffer i r) = rw (append-nil, kind_same r.kind, plain) (refl, refl)
-range_line_lem Absent = (refl, refl)
+range_line_lem (Some (Texture i r)) = rw (append-nil, kind_same r.kind, plain) (refl, refl)
+range_line_lem (Some (Buffer i r)) = rw (append-nil, kind_same r.kind, plain) (refl, refl)
+range_line_lem None = (refl, refl)
 
 module _ (r : Ranges) where
   range_lines_lem : ranges_text r ≡ joined (range_lines r)

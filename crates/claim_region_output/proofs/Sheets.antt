@@ -2,39 +2,31 @@
 -- Assumes nothing.
 use Prim.{Unit, tt}
 use mathlib.Core.Path.{◌≡◌, refl}
-use mathlib.Core.Bool.{Bool, true, false}
-use mathlib.Core.Logic.{◌⊎◌, inl, inr}
 use mathlib.Core.List.{List, [], ◌∷◌, ◌++◌, append-nil}
-use Prim.Native.Nat.{ℕ, zero, suc, ◌+◌, ◌-◌, ◌^◌, ◌≤◌, ◌<◌}
+use Prim.Native.Nat.{ℕ, zero, suc, ◌+◌, ◌-◌, ◌^◌, ◌≤◌, ◌<◌, ◌%◌}
 use native.Mathlib.Omega.{arith}
 use native.Mathlib.Nat.{mod-lt}
 use lib.Dec.{eqb}
-use lib.ListN.{length, get_or, replicate}
+use lib.ListN.{length, get_or}
+use Rattle.std.specs.Prelude.{option_map, Option, Some, None, is_none, unwrap_or, Result, Ok, Err}
 use Rattle.refusals.specs.Order.{Checks, first, decided}
-use Rattle.measures.specs.declared.OptionU32.{OptionU32}
-use Rattle.measures.specs.declared.OptionU32.TheVariants.{Given, Absent}
 use Rattle.refusals.specs.declared.TransferError.{TransferError}
 use Rattle.records.specs.declared.Device.{Device}
-use Rattle.copy_buffers.specs.declared.BufferPlanned.{BufferPlanned}
-use Rattle.copy_buffers.specs.declared.BufferPlanned.TheVariants as B
-use Rattle.copy_buffer_texture.specs.declared.BufferTexturePlanned.{BufferTexturePlanned}
-use Rattle.copy_buffer_texture.specs.declared.BufferTexturePlanned.TheVariants as U
-use Rattle.copy_textures.specs.declared.TexturePlanned.{TexturePlanned}
-use Rattle.copy_textures.specs.declared.TexturePlanned.TheVariants as T
 use Rattle.plan_rows.specs.Rows.{refusal_numbers}
 use Rattle.sheet_text.specs.Text.{line_text}
 use Rattle.plan_kinds.specs.Regions.{left_of}
-use Rattle.copy_kinds.specs.declared.Planned.{Planned}
-use Rattle.copy_kinds.specs.declared.Planned.TheVariants as P
 use Rattle.copy_kinds.specs.Planned.{of_buffers, of_buffer_texture, of_memory, of_textures}
 use Rattle.sheet_fields.specs.declared.Line.{Line}
 use Rattle.sheet_fields.specs.declared.Rule.{Rule}
-use Rattle.sheet_fields.specs.Codes.{word, long, rules, rule_of}
-use Rattle.sheet_fields.specs.Line.{line_values, Fields, ill, got, fields_in, line_with, line_of}
-use Rattle.sheet_fields.specs.Laws as F
+use Rattle.sheet_fields.specs.declared.FieldKind.{FieldKind}
+use Rattle.sheet_fields.specs.declared.FieldKind.TheVariants.{Word, Long}
+use Rattle.sheet_fields.specs.Codes.{rule_of}
+use Rattle.sheet_fields.specs.Line.{line_values, no_line, line_of}
+use Rattle.sheet_fields.specs.Laws.{Allowed}
 use Rattle.sheet_fields.proofs.Fits.{field_laws}
 use Rattle.sheet_sections.specs.declared.Parts.{Parts}
-use Rattle.sheet_sections.specs.Rows.{copies, buffer_copy_codes, linear_code, buffer_texture_codes, texture_copy_codes, copy_codes, kind_at, codes_of, section_line}
+use Rattle.sheet_sections.specs.Rows.{copies, buffer_copy_kinds, linear_kind, buffer_texture_kinds, texture_copy_kinds, copy_kinds, kind_at, kinds_of, row_of, section_line}
+use Rattle.sheet_sections.specs.Sheet.{line_number}
 use Rattle.sheet_records.specs.Records.{value_of, word_of, word_or_absent, extent_of, origin_of, view_of, layout_of}
 use Rattle.sheet_copies.specs.CopyLines.{texture_side_at, named_buffers, buffers_planned, named_copy, copy_planned, named_memory, memory_planned, named_textures, textures_planned, line_planned}
 use Rattle.sheet_lines.specs.Lines.{sheet_text, copy_text, refusal_text, answer_text}
@@ -48,42 +40,47 @@ use Rattle.claim_region_output.proofs.Prints.{plain, every_plan_prints}
 use Rattle.claim_region_output.proofs.Kept.{Small, Fit, all_told}
 use Rattle.claim_region_output.proofs.Accepted.{Figures, either_way}
 use Rattle.claim_region_output.proofs.Copies.{BuffersFit, buffers_fit, BufferTextureFit, upload_fits, memory_fits, download_fits, TexturesFit, textures_fit}
+use Rattle.plan_buffer_texture.specs.declared.BufferTexturePlan.{BufferTexturePlan}
+use Rattle.plan_buffers.specs.declared.BufferPlan.{BufferPlan}
+use Rattle.plan_textures.specs.declared.TexturePlan.{TexturePlan}
+use Rattle.copy_kinds.specs.declared.Ranges.{Ranges}
+use Rattle.plan_kinds.specs.declared.Plan.{Plan}
 
 -- ---- the plan of an accepted copy line
 
-unfoldable PlannedFit : Planned → Type 0
-PlannedFit (P.Plan p r) = 0 < left_of p → Fit p
-PlannedFit (P.Refused e) = Unit {0}
+unfoldable PlannedFit : Result (Plan × Ranges) TransferError → Type 0
+PlannedFit (Ok (p, r)) = 0 < left_of p → Fit p
+PlannedFit (Err e) = Unit {0}
 
-no_plan_lem : (e : TransferError) → PlannedFit (P.Refused e)
+no_plan_lem : (e : TransferError) → PlannedFit (Err e)
 unfolding PlannedFit
 no_plan_lem e = tt
 
-of_buffers_lem : (i j : ℕ) (a : BufferPlanned) → BuffersFit a → PlannedFit (of_buffers i j a)
+of_buffers_lem : (i j : ℕ) (a : Result BufferPlan TransferError) → BuffersFit a → PlannedFit (of_buffers i j a)
 unfolding PlannedFit of_buffers BuffersFit left_of
-of_buffers_lem i j (B.Plan p) h = h
-of_buffers_lem i j (B.Refused e) h = tt
+of_buffers_lem i j (Ok p) h = h
+of_buffers_lem i j (Err e) h = tt
 
-of_copy : (i j : ℕ) (a : BufferTexturePlanned) → BufferTextureFit a → PlannedFit (of_buffer_texture i j a)
+of_copy : (i j : ℕ) (a : Result BufferTexturePlan TransferError) → BufferTextureFit a → PlannedFit (of_buffer_texture i j a)
 unfolding PlannedFit of_buffer_texture BufferTextureFit left_of
-of_copy i j (U.Plan p) h = h
-of_copy i j (U.Refused e) h = tt
+of_copy i j (Ok p) h = h
+of_copy i j (Err e) h = tt
 
-of_memory_lem : (i : ℕ) (a : BufferTexturePlanned) → BufferTextureFit a → PlannedFit (of_memory i a)
+of_memory_lem : (i : ℕ) (a : Result BufferTexturePlan TransferError) → BufferTextureFit a → PlannedFit (of_memory i a)
 unfolding PlannedFit of_memory BufferTextureFit left_of
-of_memory_lem i (U.Plan p) h = h
-of_memory_lem i (U.Refused e) h = tt
+of_memory_lem i (Ok p) h = h
+of_memory_lem i (Err e) h = tt
 
-of_textures_lem : (i j : ℕ) (a : TexturePlanned) → TexturesFit a → PlannedFit (of_textures i j a)
+of_textures_lem : (i j : ℕ) (a : Result TexturePlan TransferError) → TexturesFit a → PlannedFit (of_textures i j a)
 unfolding PlannedFit of_textures TexturesFit left_of
-of_textures_lem i j (T.Plan p) h = λ some. h
-of_textures_lem i j (T.Refused e) h = tt
+of_textures_lem i j (Ok p) h = λ some. h
+of_textures_lem i j (Err e) h = tt
 
 -- a line's figures have 32 bits
 module _ (l : Line) where
   word_few : (i : ℕ) → word_of l i < 2 ^ 32
   unfolding word_of
-  word_few i = mod-lt (get_or l.values i 0) {m = 2 ^ 32} (omega arith)
+  word_few i = mod-lt (value_of l i) {m = 2 ^ 32} (omega arith)
 
   figures : (i j : ℕ) → Figures (view_of l i) (extent_of l j)
   unfolding view_of origin_of extent_of
@@ -100,40 +97,38 @@ module _ (l : Line) where
 
   option_small : (i : ℕ) → Small (optional (word_or_absent l i) ∷ [])
   unfolding word_or_absent optional
-  option_small i = either_way (λ (o : OptionU32). Small (optional o ∷ [])) (eqb (value_of l i) (2 ^ 64 - 1)) Absent (Given (word_of l i)) tt (omega (arith, word_few i), tt)
+  option_small i = go (get_or l.values i None)
+    where
+      go : (o : Option ℕ) → Small (optional (option_map (λ value. value % 2 ^ 32) o) ∷ [])
+      go (Some value) = (let few = mod-lt value {m = 2 ^ 32} (omega arith) in omega arith, tt)
+      go None = tt
 
 -- a length, the second value of a copy line, has 64 bits
-abbrev LengthCode : List ℕ → Type 0
-LengthCode codes = (1 < length codes) × (length codes ≤ line_values) × ((rule_of (get_or codes 1 0)).most < 2 ^ 64)
+abbrev LengthKind : List FieldKind → Type 0
+LengthKind kinds = (1 < length kinds) × (length kinds ≤ line_values) × ((rule_of (get_or kinds 1 Word)).most < 2 ^ 64)
 
-length_code : (kind : ℕ) → LengthCode (copy_codes kind)
-unfolding copy_codes buffer_copy_codes texture_copy_codes buffer_texture_codes linear_code rule_of rules
-length_code kind =
-    either_way LengthCode (eqb kind 1) _ _ (omega arith, omega arith, omega arith)
-    (either_way LengthCode (eqb kind 4) _ _ (omega arith, omega arith, omega arith)
-    (either_way (λ (code : ℕ). LengthCode (buffer_texture_codes code)) (eqb kind 5) long word (omega arith, omega arith, omega arith) (omega arith, omega arith, omega arith)))
+length_kind : (kind : ℕ) → LengthKind (copy_kinds kind)
+unfolding copy_kinds buffer_copy_kinds texture_copy_kinds buffer_texture_kinds linear_kind rule_of
+length_kind kind =
+    either_way LengthKind (eqb kind 1) _ _ (omega arith, omega arith, omega arith)
+    (either_way LengthKind (eqb kind 4) _ _ (omega arith, omega arith, omega arith)
+    (either_way (λ (k : FieldKind). LengthKind (buffer_texture_kinds k)) (eqb kind 5) Long Word (omega arith, omega arith, omega arith) (omega arith, omega arith, omega arith)))
 
-value_few : (r : Rule) (v : ℕ) → r.most < 2 ^ 64 → F.Within r v ⊎ F.Absent r v → v < 2 ^ 64
-value_few r v h (inl w) = omega (arith, h, w.1)
-value_few r v h (inr a) = omega (arith, a.1)
-
--- an ill line has zeros
-ill_zero : (f : Fields) → (line_with (replicate line_values 0) 0 f).good ≡ false → get_or (line_with (replicate line_values 0) 0 f).values 1 0 ≡ 0
-unfolding line_with
-ill_zero ill h = refl
-ill_zero (got ws gone next) h = let z : ◌≡◌ {A = ℕ} 0 1 = cc in absurd (omega arith)
+value_few : (r : Rule) (o : Option ℕ) → r.most < 2 ^ 64 → Allowed r o → unwrap_or o 0 < 2 ^ 64
+value_few r (Some v) h a = omega (arith, h, a.1)
+value_few r None h a = omega arith
 
 length_few : (s : List ℕ) (at : ℕ) → value_of (section_line s copies at) 1 < 2 ^ 64
-unfolding value_of section_line codes_of line_of
-length_few s at = go (line_of s (copy_codes (kind_at s at)) at).good refl
+unfolding value_of section_line row_of kinds_of no_line
+length_few s at = go (line_of s (copy_kinds (kind_at s at)) at) refl
   where
-    go : (t : Bool) → (line_of s (copy_codes (kind_at s at)) at).good ≡ t → get_or (line_of s (copy_codes (kind_at s at)) at).values 1 0 < 2 ^ 64
-    go true e = let c = length_code (kind_at s at) in value_few _ _ c.2 (field_laws.value s (copy_codes (kind_at s at)) at 1 c.1 e c.0)
-    go false e = omega (arith, ill_zero (fields_in s (copy_codes (kind_at s at)) at false) e)
+    go : (o : Option Line) → line_of s (copy_kinds (kind_at s at)) at ≡ o → unwrap_or (get_or (unwrap_or o no_line).values 1 None) 0 < 2 ^ 64
+    go (Some l) e = let c = length_kind (kind_at s at) in value_few _ _ c.2 (field_laws.value s (copy_kinds (kind_at s at)) at 1 l c.1 e c.0)
+    go None e = omega arith
 
 module _ (s ts bs : List ℕ) (device : Device) (l : Line) (few : value_of l 1 < 2 ^ 64) where
   -- whatever checks come before it
-  decided_fits : (checks : Checks) (rest : Planned) → PlannedFit rest → PlannedFit (decided checks P.Refused rest)
+  decided_fits : (checks : Checks) (rest : Result (Plan × Ranges) TransferError) → PlannedFit rest → PlannedFit (decided checks rest)
   unfolding decided first
   decided_fits [] rest h = h
   decided_fits ([] ∷ checks) rest h = decided_fits checks rest h
@@ -165,16 +160,16 @@ module _ (s ts bs : List ℕ) (device : Device) (l : Line) (few : value_of l 1 <
 
 -- ---- a copy's text
 
-refused_text : (k : ℕ) (e : TransferError) → copy_answer k (P.Refused e) ≡ refused k e
+refused_text : (k : ℕ) (e : TransferError) → copy_answer k (Err e) ≡ refused k e
 unfolding copy_answer answer_text refusal_text copy_text plan_answered no_plan left_of regions_text refused line line_text text refusal_numbers
 refused_text k e = rw (append-nil, plain (k ∷ []), plain (refusal_numbers e))
 
-one_copy : (k : ℕ) (a : Planned) (more : List Planned) (rest : List ℕ) → PlannedFit a → Prints (suc k) more rest → Prints k (a ∷ more) (copy_answer k a ++ rest)
+one_copy : (k : ℕ) (a : Result (Plan × Ranges) TransferError) (more : List (Result (Plan × Ranges) TransferError)) (rest : List ℕ) → PlannedFit a → Prints (suc k) more rest → Prints k (a ∷ more) (copy_answer k a ++ rest)
 unfolding PlannedFit
-one_copy k (P.Plan p r) more rest fit g =
+one_copy k (Ok (p, r)) more rest fit g =
     let e = every_plan_ends p in
     rw (every_plan_prints p e.regions e.gives (all_told e.gives fit) k r) (plan {ranges = r} e.gives g)
-one_copy k (P.Refused e) more rest fit g = rw (refused_text k e) (refusal g)
+one_copy k (Err e) more rest fit g = rw (refused_text k e) (refusal g)
 
 module _ (s : List ℕ) (p : Parts) where
   copies_text_lem :
@@ -187,9 +182,10 @@ module _ (s : List ℕ) (p : Parts) where
       rw is (one_copy k _ _ _ (line_fits s _ _ _ (section_line s copies at) (length_few s at)) (copies_text_lem total n (suc k) (section_line s copies at).next (omega (arith, e))))
 
 pub every_sheet_lists : EverySheetLists
-unfolding listing_of listing_from sheet_text line_text line text
+unfolding listing_of listing_from line_number sheet_text line_text line text
 every_sheet_lists s =
     record {
       good = λ p e. rw e (copies_text_lem s p p.copies.count p.copies.count 0 p.copies.first (omega arith));
       ill = λ n e. rw (e, plain);
+      too_long = λ e. rw (e, plain);
     }

@@ -33,6 +33,6 @@ pub every_plan_writes : EveryPlanWrites
 unfolding slots_of written_of fits numbers_of
 every_plan_writes p rs g slice =
     record {
-      room = λ h. rw (sized g, le-leb (length (slots rs)) (length slice) h) (rw (left_numbers g) (stored rs slice h), refl, left_behind g);
+      room = λ h. rw (sized g, le-leb (length (slots rs)) (length slice) h) (rw (left_numbers g) (stored rs slice h), left_behind g);
       short = λ h. rw (sized g, lt-leb (length (slots rs)) (length slice) h) (refl, refl, refl);
     }

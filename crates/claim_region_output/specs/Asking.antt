@@ -1,17 +1,11 @@
 -- The regions that asking a plan gives: all of them, in order. 01: a plan asked for its next region hands back that region beside the
 -- advanced plan; past the end the plan is unchanged.
-use Rattle.std.specs.Prelude.{◌≡◌, List, [], ◌∷◌}
+use Rattle.std.specs.Prelude.{◌≡◌, List, [], ◌∷◌, Option, Some, None}
 use Rattle.plan_buffers.specs.declared.BufferCopy.{BufferCopy}
-use Rattle.plan_buffers.specs.declared.NextBufferCopy.{NextBufferCopy}
-use Rattle.plan_buffers.specs.declared.NextBufferCopy.TheVariants as B
 use Rattle.plan_buffers.specs.Asking.{next_of as nextBuffers}
 use Rattle.plan_buffer_texture.specs.declared.BufferTextureCopy.{BufferTextureCopy}
-use Rattle.plan_buffer_texture.specs.declared.NextBufferTextureCopy.{NextBufferTextureCopy}
-use Rattle.plan_buffer_texture.specs.declared.NextBufferTextureCopy.TheVariants as U
 use Rattle.plan_buffer_texture.specs.Asking.{next_of as nextBufferTexture}
 use Rattle.plan_textures.specs.declared.TextureCopy.{TextureCopy}
-use Rattle.plan_textures.specs.declared.NextTextureCopy.{NextTextureCopy}
-use Rattle.plan_textures.specs.declared.NextTextureCopy.TheVariants as T
 use Rattle.plan_textures.specs.Asking.{next_of as nextTextures}
 use Rattle.plan_kinds.specs.declared.Plan.{Plan}
 use Rattle.plan_kinds.specs.declared.Plan.TheVariants.{Buffers, BufferTexture, Textures}
@@ -27,17 +21,17 @@ pub data Answer : Type 0 where
   region : Region → Answer
   none_left : Answer
 
-unfoldable pub buffers_answer : NextBufferCopy → Answer
-buffers_answer (B.Region r) = region (buffers r)
-buffers_answer B.NoneLeft = none_left
+unfoldable pub buffers_answer : Option BufferCopy → Answer
+buffers_answer (Some r) = region (buffers r)
+buffers_answer None = none_left
 
-unfoldable pub buffer_texture_answer : NextBufferTextureCopy → Answer
-buffer_texture_answer (U.Region r) = region (buffer_texture r)
-buffer_texture_answer U.NoneLeft = none_left
+unfoldable pub buffer_texture_answer : Option BufferTextureCopy → Answer
+buffer_texture_answer (Some r) = region (buffer_texture r)
+buffer_texture_answer None = none_left
 
-unfoldable pub textures_answer : NextTextureCopy → Answer
-textures_answer (T.Region r) = region (textures r)
-textures_answer T.NoneLeft = none_left
+unfoldable pub textures_answer : Option TextureCopy → Answer
+textures_answer (Some r) = region (textures r)
+textures_answer None = none_left
 
 unfoldable pub answer : Plan → Answer
 answer (Buffers p) = buffers_answer (nextBuffers p).answer

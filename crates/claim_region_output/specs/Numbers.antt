@@ -1,9 +1,7 @@
 -- A region's numbers, and the slice that holds them: 01, the job sheet.
 use Prim.{Unit}
-use Rattle.std.specs.Prelude.{ℕ, ◌-◌, ◌^◌, ◌<◌, length, drop}
+use Rattle.std.specs.Prelude.{ℕ, ◌-◌, ◌^◌, ◌<◌, length, drop, Option, Some, None}
 use mathlib.Core.List.{List, [], ◌∷◌, ◌++◌, map, flat_map}
-use Rattle.measures.specs.declared.OptionU32.{OptionU32}
-use Rattle.measures.specs.declared.OptionU32.TheVariants.{Given, Absent}
 use Rattle.rule_copy_range.specs.declared.CopyExtent.{CopyExtent}
 use Rattle.rule_selectors.specs.declared.TextureCopyBase.{TextureCopyBase}
 use Rattle.claim_region_output.specs.Asking.{Region, buffers, buffer_texture, textures}
@@ -12,9 +10,9 @@ pub data Number : Type 0 where
   given : ℕ → Number
   absent : Number
 
-unfoldable pub optional : OptionU32 → Number
-optional (Given n) = given n
-optional Absent = absent
+unfoldable pub optional : Option ℕ → Number
+optional (Some n) = given n
+optional None = absent
 
 -- level, layer, x, y, z, aspect bits
 abbrev pub base_numbers : TextureCopyBase → List Number

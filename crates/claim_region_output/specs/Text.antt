@@ -1,6 +1,6 @@
 -- The listing's text of a copy, as bytes: 01, the job sheet. Decimal text, one space between fields, no leading zeros, a
 -- newline after every line; `-` is an absent number.
-use Rattle.std.specs.Prelude.{ℕ, zero, suc, ◌+◌, ◌/◌, ◌%◌, cond, ltb, length}
+use Rattle.std.specs.Prelude.{ℕ, zero, suc, ◌+◌, ◌/◌, ◌%◌, cond, ltb, length, Option, Some, None}
 use Prim.Native.Char.{code}
 use Prim.Native.String as S
 use mathlib.Core.List.{List, [], ◌∷◌, ◌++◌, flat_map}
@@ -10,8 +10,8 @@ use Rattle.refusals.specs.declared.TransferError.{TransferError}
 use Rattle.refusals.specs.Numbers.{numbers_of}
 use Rattle.plan_kinds.specs.declared.Plan.{Plan}
 use Rattle.plan_kinds.specs.declared.Plan.TheVariants.{Buffers, BufferTexture, Textures}
-use Rattle.copy_kinds.specs.declared.RangeSlot.{RangeSlot}
-use Rattle.copy_kinds.specs.declared.RangeSlot.TheVariants.{Texture, Buffer, Absent}
+use Rattle.copy_kinds.specs.declared.InitRange.{InitRange}
+use Rattle.copy_kinds.specs.declared.InitRange.TheVariants.{Texture, Buffer}
 use Rattle.copy_kinds.specs.declared.Ranges.{Ranges}
 use Rattle.claim_region_output.specs.Asking.{Region}
 use Rattle.claim_region_output.specs.Numbers.{Number, given, absent, numbers}
@@ -46,10 +46,10 @@ unfoldable pub kind : MemoryInitKind → ℕ
 kind ImplicitlyInitialized = 0
 kind NeedsInitializedMemory = 1
 
-unfoldable pub range_line : RangeSlot → List (List ℕ)
-range_line (Texture i r) = line "t" (given i ∷ given r.mip_level ∷ given r.layers.start ∷ given r.layers.end ∷ given (kind r.kind) ∷ []) ∷ []
-range_line (Buffer i r) = line "b" (given i ∷ given r.start ∷ given r.end ∷ given (kind r.kind) ∷ []) ∷ []
-range_line Absent = []
+unfoldable pub range_line : Option InitRange → List (List ℕ)
+range_line (Some (Texture i r)) = line "t" (given i ∷ given r.mip_level ∷ given r.layers.start ∷ given r.layers.end ∷ given (kind r.kind) ∷ []) ∷ []
+range_line (Some (Buffer i r)) = line "b" (given i ∷ given r.start ∷ given r.end ∷ given (kind r.kind) ∷ []) ∷ []
+range_line None = []
 
 abbrev pub range_lines : Ranges → List (List ℕ)
 range_lines r = flat_map range_line (r.first ∷ r.second ∷ r.third ∷ r.fourth ∷ [])

@@ -1,5 +1,6 @@
 -- Asking a plan until none is left gives its regions and nothing else.
 -- Assumes nothing.
+use Rattle.std.specs.Prelude.{Some, None}
 use mathlib.Core.Path.{◌≡◌, refl}
 use mathlib.Core.List.{List, [], ◌∷◌}
 use Prim.Native.Nat.{ℕ, zero, suc, ◌<◌}
@@ -12,7 +13,6 @@ use Rattle.plan_textures.specs.declared.CopyParts.{CopyParts}
 use Rattle.plan_textures.specs.declared.CopyParts.TheVariants.{Whole, DepthStencil, Planes}
 use Rattle.plan_textures.specs.declared.TextureCopy.{TextureCopy}
 use Rattle.plan_textures.specs.declared.TexturePlan.{TexturePlan}
-use Rattle.plan_textures.specs.declared.NextTextureCopy.TheVariants.{Region, NoneLeft}
 use Rattle.plan_textures.specs.Asking.{region_of, other_part, other_layer, advanced, next_of}
 use Rattle.claim_texture_regions.specs.Claim.{Gives, ended, gave}
 
@@ -24,11 +24,11 @@ abbrev pub next_regions : ℕ → TexturePlan → List TextureCopy
 next_regions zero p = []
 next_regions (suc n) p = region_of p.parts p ∷ next_regions n (next p)
 
-at_end : (p : TexturePlan) → p.left ≡ 0 → next_of p ≡ record { answer = NoneLeft; plan = p }
+at_end : (p : TexturePlan) → p.left ≡ 0 → next_of p ≡ record { answer = None; plan = p }
 unfolding next_of stop_if
 at_end p e = rw (eq-eqb p.left 0 e)
 
-at_more : (p : TexturePlan) → 0 < p.left → next_of p ≡ record { answer = Region (region_of p.parts p); plan = next p }
+at_more : (p : TexturePlan) → 0 < p.left → next_of p ≡ record { answer = Some (region_of p.parts p); plan = next p }
 unfolding next_of stop_if
 at_more p h = rw (ne_eqb p.left 0 (λ e. omega arith))
 
@@ -55,6 +55,6 @@ gives_only zero {p} (gave h g) e = let f = rw (at_end p e) at h in let z : ◌�
 gives_only (suc n) {p} (ended h q) e = let f = rw (at_more p (omega arith)) at h in let z : ◌≡◌ {A = ℕ} 0 1 = cc in absurd (omega arith)
 gives_only (suc n) {p} (gave {r = r} {rs = rs} h g) e =
     let m = at_more p (omega arith) in
-    let f : Region (region_of p.parts p) ≡ Region r = rw m at h in
+    let f : Some (region_of p.parts p) ≡ Some r = rw m at h in
     let t : rs ≡ next_regions n (next p) = gives_only n (rw m at g) (left_next n p e p.parts) in
     cc

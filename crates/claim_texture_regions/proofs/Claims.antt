@@ -7,7 +7,6 @@ use Prim.Native.Nat.{ℕ, zero, suc, ◌+◌, ◌*◌, ◌/◌, ◌%◌, ◌^◌
 use native.Mathlib.Omega.{arith}
 use native.Mathlib.Nat.{div-one, min-eq_left, le_refl}
 use lib.ListN.{length, get_or}
-use Rattle.conditions.specs.Conditions.{pick}
 use Rattle.measures.specs.declared.Extent3d.{Extent3d}
 use Rattle.measures.specs.Measure as M
 use Rattle.measures.specs.Measure.{physical_size, round_up}
@@ -33,7 +32,7 @@ use Rattle.claim_texture_regions.specs.Claim.{Gives, EveryTextureCopy}
 use Rattle.claim_texture_regions.proofs.Accepted.{Accepted, accepted, base_for, plan_for}
 use Rattle.claim_texture_regions.proofs.Asks.{next_regions, gives, gives_only}
 use Rattle.claim_texture_regions.proofs.States.{parts_for, num, first, base_at, Behind, region_is, behind_next}
-use Rattle.claim_texture_regions.proofs.Same.{same_dimension, same_layers, same_depth, same_layer, same_z, same_bits_lem, same_parts}
+use Rattle.claim_texture_regions.proofs.Same.{same_dimension, same_layers, same_depth, same_layer, same_z, same_bits_lem, same_parts, same_pick}
 
 -- ---- how many parts, and how far the layers go
 
@@ -136,11 +135,7 @@ module _ (i j : ℕ) (c : Copy) (k : Accepted i j c) where
 
   left_is : (plan_for c).left ≡ region_count c
   unfolding T.plan_for N.plan_of layer_count_of M.is_empty
-  left_is = rw (counted v, part_count_lem, same_dimension c.src, same_layers (dimension c.src) (depth c)) (as_cond (is_empty c.size) _)
-    where
-      as_cond : (t : Bool) (n : ℕ) → pick t 0 n ≡ cond t 0 n
-      as_cond true n = refl
-      as_cond false n = refl
+  left_is = rw (counted v, part_count_lem, same_dimension c.src, same_layers (dimension c.src) (depth c)) (same_pick (is_empty c.size) _ _)
 
   at_most : (empty : Bool) → cond empty 0 (layers * num v) ≤ layers * num v
   at_most true = omega arith

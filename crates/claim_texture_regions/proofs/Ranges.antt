@@ -32,7 +32,7 @@ use Rattle.claim_texture_regions.specs.Regions.{Copy, dimension, is_empty}
 use Rattle.claim_texture_regions.specs.Ranges.{is_all, layers_from, halved, covers_level, covers, range_of, ranges_of}
 use Rattle.claim_texture_regions.specs.Claim.{EveryTextureRange}
 use Rattle.claim_texture_regions.proofs.Accepted.{accepted, plan_for}
-use Rattle.claim_texture_regions.proofs.Same.{same_dimension}
+use Rattle.claim_texture_regions.proofs.Same.{same_dimension, same_pick}
 
 -- ---- layers and level, by the dimension
 
@@ -94,10 +94,6 @@ same_all DepthOnly = refl
 same_all Plane0 = refl
 same_all Plane1 = refl
 same_all Plane2 = refl
-
-same_pick : {A : Type 0} (t : Bool) (a b : A) → pick t a b ≡ cond t a b
-same_pick true a b = refl
-same_pick false a b = refl
 
 flip : {A : Type 0} (s t : Bool) (a b : A) → pick (not s || not t) a b ≡ cond (s && t) b a
 flip true true a b = refl

@@ -8,7 +8,7 @@ use Prim.Native.Nat.{ℕ, ◌<◌}
 use native.Mathlib.Omega.{arith}
 use lib.Dec.{eqb}
 use borrow.Author.Tests.{eqb-true, eq-eqb, ltb-true, not-true}
-use Rattle.conditions.specs.Conditions.{stop_if}
+use Rattle.conditions.specs.Conditions.{pick, stop_if}
 use Rattle.conditions.proofs.Rules.{both_true, either}
 use Rattle.conditions.proofs.Tables.{every_below, at_below}
 use Rattle.flags.specs.Flags.{meet}
@@ -30,6 +30,12 @@ use Rattle.copy_textures.specs.Copy.{is_this, is_plane_split}
 use Rattle.claim_texture_regions.specs.Regions.{Copy, part, format_bits, is_asked, chosen, bits, is_nv12, parts, dimension, layers_of, layer_of, z_of, depth_of}
 use Rattle.claim_texture_regions.proofs.Accepted as A
 use Rattle.claim_texture_regions.proofs.States.{parts_for}
+
+-- ---- a choice
+
+pub same_pick : {A : Type 0} (t : Bool) (a b : A) → pick t a b ≡ cond t a b
+same_pick true a b = refl
+same_pick false a b = refl
 
 -- ---- by the dimension
 

@@ -1,5 +1,5 @@
 -- The ranges that the plan of a copy between textures reports, from document 01's module 7. Nothing here is the planner's but the types.
-use Rattle.std.specs.Prelude.{Bool, true, false, cond, ◌&&◌, ◌||◌, not, ℕ, ◌+◌, ◌/◌, ◌^◌, max, eqb}
+use Rattle.std.specs.Prelude.{Bool, true, false, cond, ◌&&◌, ◌||◌, not, ℕ, ◌+◌, ◌/◌, ◌^◌, max, eqb, Option, Some, None}
 use Rattle.measures.specs.declared.Extent3d.{Extent3d}
 use Rattle.measures.specs.declared.Range.{Range}
 use Rattle.mip_levels.specs.declared.TextureDimension.{TextureDimension}
@@ -10,8 +10,6 @@ use Rattle.rule_init_ranges.specs.declared.MemoryInitKind.{MemoryInitKind}
 use Rattle.rule_init_ranges.specs.declared.MemoryInitKind.TheVariants.{ImplicitlyInitialized, NeedsInitializedMemory}
 use Rattle.rule_init_ranges.specs.declared.TextureInitRange.{TextureInitRange}
 use Rattle.records.specs.declared.TextureSide.{TextureSide}
-use Rattle.plan_textures.specs.declared.TextureRanges.{TextureRanges}
-use Rattle.plan_textures.specs.declared.TextureRanges.TheVariants.{Given, Absent}
 use Rattle.claim_texture_regions.specs.Regions.{Copy, dimension, is_empty}
 
 abbrev pub is_3d : TextureDimension → Bool
@@ -62,5 +60,5 @@ abbrev pub dst_range_of : Copy → TextureInitRange
 dst_range_of c = range_of c.dst c.size (cond (covers c.dst c.size) ImplicitlyInitialized NeedsInitializedMemory)
 
 -- the source's, then the destination's; none where the copy is empty
-abbrev pub ranges_of : Copy → TextureRanges
-ranges_of c = cond (is_empty c.size) Absent (Given (src_range_of c) (dst_range_of c))
+abbrev pub ranges_of : Copy → Option (TextureInitRange × TextureInitRange)
+ranges_of c = cond (is_empty c.size) None (Some (src_range_of c, dst_range_of c))

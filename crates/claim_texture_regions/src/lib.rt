@@ -3,6 +3,7 @@
 // check asks for their proof.
 ghost use Rattle.claim_texture_regions.specs.Claim.{EveryTextureCopy, EveryTextureRange};
 
+#[tactic(auto, using(crate::proofs::Claims::every_texture_copy, crate::proofs::Ranges::every_texture_range))]
 pub fn texture_regions()
     ensures every_texture_copy { EveryTextureCopy }
     ensures ranges { EveryTextureRange }

@@ -1,5 +1,7 @@
 -- Copies between buffers against the standard's.
 -- Assumes nothing.
+use Rattle.std.specs.Prelude.{Option, Some, None}
+use Rattle.std.proofs.lemmas.Bool.{or_left, or_right, false_from_ne_true}
 use mathlib.Core.Path.{◌≡◌, refl}
 use mathlib.Core.Bool.{Bool, true, false, not, ◌&&◌, ◌||◌}
 use mathlib.Core.Logic.{◌⊎◌, inl, inr, ⊎_elim}
@@ -7,8 +9,6 @@ use Prim.Native.Nat.{ℕ, ◌-◌}
 use lib.Dec.{eqb}
 use borrow.Author.Tests.{not-true}
 use Rattle.conditions.proofs.Rules.{both_true, either}
-use Rattle.measures.specs.declared.OptionU64.{OptionU64}
-use Rattle.measures.specs.declared.OptionU64.TheVariants as O
 use Rattle.flags.specs.Flags.{contains}
 use Rattle.records.specs.declared.Buffer.{Buffer}
 use Rattle.records.specs.declared.Device.{Device}
@@ -27,19 +27,12 @@ pub buffer_bounds : (b : Buffer) → ((BufferInBounds b → ⊥) → ⊥) → bu
 buffer_bounds b kept = tested (buffer_in_bounds b) (record_bounds.buffers b).1 kept
 
 -- an absent size is what is left of the source, in both
-size_is : (src : Buffer) (offset : ℕ) (size : OptionU64) → size_or size (src.size - offset) ≡ copy_size_of src offset size
+size_is : (src : Buffer) (offset : ℕ) (size : Option ℕ) → size_or size (src.size - offset) ≡ copy_size_of src offset size
 unfolding size_or
-size_is src offset (O.Given n) = refl
-size_is src offset O.Absent = refl
+size_is src offset (Some n) = refl
+size_is src offset None = refl
 
 -- ---- 34, by its test and by its words
-
-or_left : (s t : Bool) → s ≡ true → (s || t) ≡ true
-or_left s t e = rw e
-
-or_right : (s t : Bool) → t ≡ true → (s || t) ≡ true
-or_right true t e = refl
-or_right false t e = e
 
 shared_of : (b : Buffer) → is_shared b.usage.0 ≡ true → Shared b
 unfolding is_shared
@@ -90,15 +83,11 @@ module _ (device : Device) (src dst : Buffer) where
       shared (inr h) = or_right (is_shared src.usage.0) _ (shared_by dst h)
 
   unrestricted : (IndexRestricted device src dst → ⊥) → lacks_index_fact device src.usage.0 dst.usage.0 ≡ false
-  unrestricted kept = go (lacks_index_fact device src.usage.0 dst.usage.0) refl
-    where
-      go : (t : Bool) → lacks_index_fact device src.usage.0 dst.usage.0 ≡ t → t ≡ false
-      go true e = absurd (kept (restricted_of e))
-      go false e = refl
+  unrestricted kept = false_from_ne_true _ (λ e. kept (restricted_of e))
 
 -- ---- the whole copy
 
-module _ (device : Device) (i j : ℕ) (src dst : Buffer) (srcOffset dstOffset : ℕ) (size : OptionU64) where
+module _ (device : Device) (i j : ℕ) (src dst : Buffer) (srcOffset dstOffset : ℕ) (size : Option ℕ) where
   abbrev copy : Copy
   copy = record { device = device; src_index = i; src = src; src_offset = srcOffset; dst_index = j; dst = dst; dst_offset = dstOffset; size = size }
 

@@ -1,9 +1,9 @@
 -- Tests, and what they test for.
 -- Assumes nothing.
-use mathlib.Core.Path.{◌≡◌, refl, sym, ◌∙◌}
-use mathlib.Core.Bool.{Bool, true, false}
+use Rattle.std.proofs.lemmas.Bool.{true_from_ne_false}
+use mathlib.Core.Path.{◌≡◌, sym, ◌∙◌}
+use mathlib.Core.Bool.{Bool, true, false, true≢false}
 use Prim.Native.Nat.{ℕ, ◌^◌}
-use native.Mathlib.Omega.{arith}
 use borrow.Author.Tests.{eqb-true, eq-eqb}
 use Rattle.flags.specs.Flags.{contains}
 use Rattle.flags.proofs.SingleFlags.{contains_single}
@@ -18,9 +18,8 @@ module _ (word k : ℕ) where
   has_by h = contains_single word k ∙ eq-eqb _ 1 h
 
 pub opposite : {C : Type 0} (t : Bool) → t ≡ true → t ≡ false → C
-opposite t e f = let b : ◌≡◌ {A = Bool} true false = sym e ∙ f in let z : ◌≡◌ {A = ℕ} 0 1 = cc in absurd (omega arith)
+opposite t e f = absurd (true≢false (sym e ∙ f))
 
 -- a test that is not false where what it tests for is not excluded
 pub tested : {A : Type 0} (t : Bool) → (A → t ≡ true) → ((A → ⊥) → ⊥) → t ≡ true
-tested true by kept = refl
-tested false by kept = absurd (kept (λ a. opposite false (by a) refl))
+tested t by kept = true_from_ne_false t (λ e. kept (λ a. opposite t (by a) e))

@@ -1,17 +1,15 @@
 -- The examples: the standard's rules one by one, and the planner's answer by the claims on whole copies.
 -- Assumes nothing.
+use Rattle.std.specs.Prelude.{Some, None}
+use Rattle.std.proofs.lemmas.Option.{none-some, same_Some}
 use mathlib.Core.Path.{◌≡◌, refl, sym, ap, ◌∙◌}
 use mathlib.Core.Bool.{Bool, true, false, cond}
-use mathlib.Core.List.{List}
 use mathlib.Core.Logic.{◌⊎◌, inl, inr}
 use Prim.Native.Nat.{ℕ, ◌+◌, ◌/◌, ◌%◌, ◌^◌, ◌≤◌, ◌<◌}
 use native.Mathlib.Omega.{arith}
 use native.Mathlib.Nat.{mod-one, zero-mod}
 use Rattle.conditions.specs.Conditions.{stop_if}
 use Rattle.measures.specs.declared.Extent3d.{Extent3d}
-use Rattle.measures.specs.declared.OptionU32.{OptionU32}
-use Rattle.measures.specs.declared.OptionU32.TheVariants.{Given, Absent}
-use Rattle.measures.specs.declared.OptionU64.TheVariants as L
 use Rattle.measures.specs.Measure.{multiple}
 use Rattle.formats.specs.declared.TextureAspect.{TextureAspect}
 use Rattle.formats.specs.declared.TextureAspect.TheVariants.{All, DepthOnly}
@@ -23,12 +21,12 @@ use Rattle.records.specs.declared.Texture.{Texture}
 use Rattle.records.specs.Bounds as records
 use Rattle.records.specs.Bounds.{buffer_in_bounds, texture_in_bounds}
 use Rattle.copy_buffer_texture.specs.Copy.{Copy}
-use Rattle.claim_webgpu_rules.specs.Formats.{Color, formats, Known, format_of, any_depth_or_stencil, is_depth_or_stencil, named, dimension_of, srgb_pairs, paired, copy_compatible}
-use Rattle.claim_webgpu_rules.specs.WebGpu.{Has, logical_size, to_block, physical_subresource_size, CopiedWhole, Reading, WithLayers, OneLayer, IsWhole, TexelCopyTexture, required_bytes_in_copy, taken, valid_one, block_bytes, LinearBox, CopyTexels, Disjoint}
+use Rattle.claim_webgpu_rules.specs.Formats.{Color, formats, format_of, any_depth_or_stencil, is_depth_or_stencil, named, dimension_of, copy_compatible}
+use Rattle.claim_webgpu_rules.specs.WebGpu.{Has, logical_size, to_block, physical_subresource_size, CopiedWhole, Reading, WithLayers, OneLayer, IsWhole, TexelCopyTexture, required_bytes_in_copy, taken, valid_one, block_bytes, LinearBox, CopyTexels}
 use Rattle.claim_webgpu_rules.specs.Agreement.{MovesWithin, SomeLayers}
 use Rattle.claim_webgpu_copies.specs.Bounds.{BufferInBounds, TextureInBounds}
-use Rattle.claim_webgpu_copies.specs.WholeCopies.{planned, GivesPlan, StandardCopy, LengthFits, Compared, BufferExcepted, CopyExcepted, Rules, OutOfBounds}
-use Rattle.claim_webgpu_copies.specs.Examples.{device, buffer, extent, texture, view_at, StandardBuffers, Way, FromBuffer, FromMemory, IntoBuffer, direction, texel, too_wide, too_large, depthless, color_depth, one_layer, no_layer, starred, OnlyStandard, OnlyWithoutLayers, side, OntoZ1, StandardOntoZ1, OnlyPlanned, Examples}
+use Rattle.claim_webgpu_copies.specs.WholeCopies.{planned, GivesPlan, StandardCopy, LengthFits, Compared, BufferExcepted, CopyExcepted, Rules}
+use Rattle.claim_webgpu_copies.specs.Examples.{device, buffer, extent, texture, view_at, StandardBuffers, Way, FromBuffer, FromMemory, IntoBuffer, direction, texel, too_wide, too_large, depthless, color_depth, one_layer, no_layer, starred, OnlyWithoutLayers, side, OnlyPlanned, Examples}
 use Rattle.claim_webgpu_copies.proofs.Lines.{opposite}
 use Rattle.claim_webgpu_copies.proofs.Records.{record_bounds}
 use Rattle.claim_webgpu_copies.proofs.Buffers.{buffer_to_buffer_lem}
@@ -75,9 +73,6 @@ one_texel OneLayer = (refl, refl)
 
 -- ---- between a buffer, or memory, and a texture
 
-absent : {n : ℕ} {C : Type 0} → Absent ≡ Given n → C
-absent e = let z : ◌≡◌ {A = ℕ} 0 1 = cc in absurd (omega arith)
-
 abbrev is_read : Way → Bool
 is_read FromBuffer = false
 is_read FromMemory = false
@@ -97,7 +92,7 @@ texels_hold reading reads aligned way d bytes format size z aspect copied v a l 
     record {
       texture_usage = usage reads;
       view_valid = v;
-      suits = record { one_sample = refl; allowed = a; layout_aligned = λ e. record { depth_stencil = λ e. refl; other = λ e. zero-mod (block_bytes format aspect); row = λ n e. absent e } };
+      suits = record { one_sample = refl; allowed = a; layout_aligned = λ e. record { depth_stencil = λ e. refl; other = λ e. zero-mod (block_bytes format aspect); row = λ n e. absurd (none-some n e) } };
       linear = l;
     }
 
@@ -162,7 +157,7 @@ fits FromBuffer bytes h = tt
 fits FromMemory bytes h = h
 fits IntoBuffer bytes h = tt
 
-compared : (c : Copy) → c.texture.format < 21 → c.layout.bytes_per_row ≡ Absent → c.layout.rows_per_image ≡ Absent → LengthFits c.direction → Compared c
+compared : (c : Copy) → c.texture.format < 21 → c.layout.bytes_per_row ≡ None → c.layout.rows_per_image ≡ None → LengthFits c.direction → Compared c
 unfolding formats
 compared c k b r l = record { known = k; bytes_field = rw b tt; rows_field = rw r tt; length_field = l }
 
@@ -195,8 +190,8 @@ module _ (way : Way) where
       (first_level OneLayer 15 2 0 (extent 1 1 2) (extent 1 1 0) All refl refl (λ w. (refl, refl)) (omega arith) (omega arith) (omega arith))
       (allowed way).3 (one_row way 0 15 (extent 1 1 2) All (device true true) 0 (extent 1 1 0) refl (omega arith) refl (omega arith))
 
-whole_rows : (n : ℕ) → Given 256 ≡ Given n → n % 256 ≡ 0
-whole_rows n e = let h : 256 ≡ n = cc in rw (← h)
+whole_rows : (n : ℕ) → Some 256 ≡ Some n → n % 256 ≡ 0
+whole_rows n e = rw (← same_Some 256 n e)
 
 starred_holds : StandardCopy OneLayer (starred IntoBuffer)
 unfolding formats format_of any_depth_or_stencil is_depth_or_stencil named dimension_of logical_size to_block physical_subresource_size taken block_bytes required_bytes_in_copy
@@ -320,8 +315,8 @@ examples =
     let stencil = bounded.stencil in
     let layered = below.1 in
     record {
-      large = (large, λ g. ((buffer_to_buffer_lem (device true true) 0 1 (buffer 268435457 4) (buffer 4 8) 0 0 (L.Given 4)).0 g).1 (inl (too_large_lem 4)));
-      index = (indexed, λ g. ((buffer_to_buffer_lem (device true false) 0 1 (buffer 4 20) (buffer 4 40) 0 0 (L.Given 4)).0 g).1 (inr (inr (record { fact = refl; index = inl refl; shared = inr (inl refl) }))));
+      large = (large, λ g. ((buffer_to_buffer_lem (device true true) 0 1 (buffer 268435457 4) (buffer 4 8) 0 0 (Some 4)).0 g).1 (inl (too_large_lem 4)));
+      index = (indexed, λ g. ((buffer_to_buffer_lem (device true false) 0 1 (buffer 4 20) (buffer 4 40) 0 0 (Some 4)).0 g).1 (inr (inr (record { fact = refl; index = inl refl; shared = inr (inl refl) }))));
       wide_texture = λ way. record { accepted = λ reading. wide_holds reading way; refused = refused_by (too_wide way) (compared (too_wide way) below.0 refl refl (fits way 1 (omega arith))) (inr (inl (too_wide_lem 1))) };
       large_buffer = (
         record { accepted = λ reading. large_holds reading FromBuffer; refused = refused_by (too_large FromBuffer) (compared (too_large FromBuffer) below.0 refl refl tt) (inl (too_large_lem 12)) },

@@ -1,11 +1,13 @@
 -- The planner's bounds of records are document 01's.
 -- Assumes nothing.
+use Rattle.std.proofs.lemmas.Bool.{or_left, or_right}
 use mathlib.Core.Path.{◌≡◌, refl, ◌∙◌}
 use mathlib.Core.Bool.{Bool, true, false, not, ◌&&◌, ◌||◌, cond}
 use mathlib.Core.List.{[], ◌∷◌}
 use mathlib.Core.Logic.{◌⊎◌, inl, inr, ⊎_elim}
 use Prim.Native.Nat.{ℕ, ◌-◌, ◌/◌, ◌%◌, ◌^◌, ◌≤◌, ◌<◌}
 use native.Mathlib.Omega.{arith}
+use native.Mathlib.Nat.{mod-one}
 use lib.Dec.{eqb, leb}
 use borrow.Author.Tests.{ltb-true, lt-ltb, leb-true, leb-false, le-leb, eqb-true, eq-eqb}
 use Rattle.conditions.specs.Conditions.{every}
@@ -45,13 +47,6 @@ rest_of n m e = eqb-true (n % m) 0 e
 no_rest : (n m : ℕ) → n % m ≡ 0 → multiple n m ≡ true
 unfolding multiple
 no_rest n m e = eq-eqb (n % m) 0 e
-
-or_left : (s t : Bool) → s ≡ true → (s || t) ≡ true
-or_left s t e = rw e
-
-or_right : (s t : Bool) → t ≡ true → (s || t) ≡ true
-or_right true t e = refl
-or_right false t e = e
 
 -- ---- buffers
 
@@ -109,9 +104,6 @@ block_sides : (f : ℕ) → f ≤ 21 → (block_width_of f ≡ cond (within 11 f
 unfolding blocks
 block_sides f h = let p = both_true _ _ (at_below blocks 22 all_blocks f (omega arith)) in (eqb-true _ _ p.0, eqb-true _ _ p.1)
 
-by_one : (n : ℕ) → n % 1 ≡ 0
-by_one n = omega arith
-
 module _ (t : Texture) (known : t.format ≤ 21) where
   whole_of : sides_whole t.format t.size ≡ true → Between 11 t.format 14 → (t.size.width.0 % 4 ≡ 0) × (t.size.height.0 % 4 ≡ 0)
   unfolding sides_whole
@@ -134,7 +126,7 @@ module _ (t : Texture) (known : t.format ≤ 21) where
           rw (s.0, s.1, e, no_rest t.size.width.0 4 r.0) (no_rest t.size.height.0 4 r.1)
       go false e =
           let s = block_sides t.format known in
-          rw (s.0, s.1, e, no_rest t.size.width.0 1 (by_one _)) (no_rest t.size.height.0 1 (by_one _))
+          rw (s.0, s.1, e, no_rest t.size.width.0 1 (mod-one _)) (no_rest t.size.height.0 1 (mod-one _))
 
 module _ (t : Texture) where
   flat_of : dimension_suits t.format t.dimension ≡ true → 11 ≤ t.format → t.dimension ≡ 2

@@ -1,13 +1,12 @@
 -- The figures of a part that lies inside its texture: its row and its rows are within 32 bits.
 -- Assumes nothing.
+use Rattle.std.specs.Prelude.{Option, Some, None}
 use mathlib.Core.Path.{◌≡◌, refl, ap}
 use mathlib.Core.Bool.{true}
 use Prim.Native.Nat.{ℕ, ◌+◌, ◌*◌, ◌/◌, ◌^◌, ◌≤◌, ◌<◌}
 use native.Mathlib.Omega.{arith}
 use native.Mathlib.Nat.{mul-le-mul, div-le_self}
 use Rattle.measures.specs.declared.Extent3d.{Extent3d}
-use Rattle.measures.specs.declared.OptionU32.{OptionU32}
-use Rattle.measures.specs.declared.OptionU32.TheVariants.{Given, Absent}
 use Rattle.measures.specs.Measure.{physical_size, or_else, round_up}
 use Rattle.measures.proofs.Rounding.{block_laws}
 use Rattle.formats.specs.declared.TextureAspect.{TextureAspect}
@@ -34,9 +33,9 @@ few_bytes : (format : ℕ) (aspect : TextureAspect) → linear.block_bytes forma
 unfolding linear.block_bytes or_else
 few_bytes format aspect = go (block_copy_size format aspect) refl
   where
-    go : (o : OptionU32) → block_copy_size format aspect ≡ o → or_else o 0 ≤ max_block_bytes
-    go (Given n) e = (every_format format).bytes_few aspect n e
-    go Absent e = omega arith
+    go : (o : Option ℕ) → block_copy_size format aspect ≡ o → or_else o 0 ≤ max_block_bytes
+    go (Some n) e = (every_format format).bytes_few aspect n e
+    go None e = omega arith
 
 abbrev max_rounded : ℕ
 max_rounded = max_side + max_block_side

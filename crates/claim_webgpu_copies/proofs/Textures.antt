@@ -1,13 +1,15 @@
 -- Copies between a buffer, or memory, and a texture against the standard's.
 -- Assumes nothing.
+use Rattle.std.specs.Prelude.{Ok}
+use Rattle.std.proofs.lemmas.Bool.{false_from_ne_true}
 use mathlib.Core.Path.{◌≡◌, refl, sym, ◌∙◌}
-use mathlib.Core.Bool.{Bool, true, false, not, ◌&&◌, ◌||◌, cond}
+use mathlib.Core.Bool.{Bool, true, false, ◌||◌, cond}
 use mathlib.Core.Logic.{◌⊎◌, inl, inr, ⊎_elim, ◌↔◌}
 use Prim.Native.Nat.{ℕ, ◌^◌, ◌<◌}
 use native.Mathlib.Omega.{arith}
 use lib.Dec.{eqb}
 use borrow.Author.Tests.{eqb-true, not-false, not-true}
-use Rattle.conditions.proofs.Rules.{not_yes, not_no}
+use Rattle.conditions.proofs.Rules.{not_yes, not_no, both_true}
 use Rattle.conditions.proofs.Tables.{every_below, at_below}
 use Rattle.flags.specs.Flags.{contains, is_one}
 use Rattle.formats.specs.declared.TextureAspect.{TextureAspect}
@@ -16,7 +18,6 @@ use Rattle.formats.specs.Table.{is_depth_stencil}
 use Rattle.formats.specs.Aspects.{chosen_aspects}
 use Rattle.refusals.specs.declared.CopySide.{CopySide}
 use Rattle.refusals.specs.declared.CopySide.TheVariants.{Source, Destination}
-use Rattle.refusals.specs.declared.Checked.TheVariants as C
 use Rattle.refusals.specs.Order.{checked}
 use Rattle.records.specs.declared.Texture.{Texture}
 use Rattle.records.specs.Bounds.{texture_in_bounds}
@@ -52,12 +53,8 @@ texture_bounds t kept = tested (texture_in_bounds t) (record_bounds.textures t).
 
 depth_kept : (c : Copy) → Known c.texture.format → (DepthRestricted c → ⊥) → lacks_depth_fact c.device c.texture.format ≡ false
 unfolding lacks_depth_fact
-depth_kept c k kept = go (is_depth_stencil c.texture.format) c.device.depth_texture_and_buffer_copies refl refl
-  where
-    go : (s f : Bool) → is_depth_stencil c.texture.format ≡ s → c.device.depth_texture_and_buffer_copies ≡ f → (s && not f) ≡ false
-    go false f e q = refl
-    go true true e q = refl
-    go true false e q = absurd (kept (sym (row_of c.texture.format k).depth_or_stencil ∙ e, q))
+depth_kept c k kept =
+    false_from_ne_true _ (λ e. let p = both_true (is_depth_stencil c.texture.format) _ e in kept (sym (row_of c.texture.format k).depth_or_stencil ∙ p.0, not-true _ p.1))
 
 depth_lacks : (c : Copy) → Known c.texture.format → DepthRestricted c → lacks_depth_fact c.device c.texture.format ≡ true
 unfolding lacks_depth_fact
@@ -110,11 +107,7 @@ lacks_aspect c k (color, other) =
 -- exactly one aspect is not none
 one_not_none : (n : ℕ) → is_one n ≡ true → eqb n 0 ≡ false
 unfolding is_one
-one_not_none n e = go (eqb n 0) refl
-  where
-    go : (t : Bool) → eqb n 0 ≡ t → t ≡ false
-    go true h = let z : n ≡ 0 = eqb-true n 0 h in opposite (is_one 0) (rw z at e) refl
-    go false h = refl
+one_not_none n e = false_from_ne_true (eqb n 0) (λ h. let z : n ≡ 0 = eqb-true n 0 h in opposite (is_one 0) (rw z at e) refl)
 
 -- ---- either way
 
@@ -195,7 +188,7 @@ module _ (reading : Reading) (c : Copy) (r : Compared c) (kept : CopyExcepted c 
   chosen_is = (row_of f r.known).chosen a
 
   abbrev rules : ℕ → Type 0
-  rules chosen = checked (layout_checks a chosen c.texture c.layout (aligned way)) ≡ C.GoOn
+  rules chosen = checked (layout_checks a chosen c.texture c.layout (aligned way)) ≡ Ok tt
 
   ranges : GoesOn (range_checked c.view c.texture (texture_side_of way) c.size) ↔ TexelCopyTexture reading c.texture c.view c.size
   ranges = ranges_by_lem reading c.view c.texture (texture_side_of way) c.size r.known whole

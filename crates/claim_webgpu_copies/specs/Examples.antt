@@ -1,9 +1,6 @@
 -- Copies at which the planner and the standard differ, for each exception; docs/DIFFERENCES.md has them as sheets.
-use Rattle.std.specs.Prelude.{Bool, true, false, ℕ}
+use Rattle.std.specs.Prelude.{Bool, true, false, ℕ, Option, Some, None}
 use Rattle.measures.specs.declared.Extent3d.{Extent3d}
-use Rattle.measures.specs.declared.OptionU32.{OptionU32}
-use Rattle.measures.specs.declared.OptionU32.TheVariants.{Given, Absent}
-use Rattle.measures.specs.declared.OptionU64.TheVariants as L
 use Rattle.formats.specs.declared.TextureAspect.{TextureAspect}
 use Rattle.formats.specs.declared.TextureAspect.TheVariants.{All, DepthOnly}
 use Rattle.records.specs.declared.Buffer.{Buffer}
@@ -14,7 +11,7 @@ use Rattle.copy_buffer_texture.specs.declared.UploadSource.TheVariants as S
 use Rattle.copy_buffer_texture.specs.Copy.{Direction, Upload, Download, Copy}
 use Rattle.records.specs.declared.TextureSide.{TextureSide}
 use Rattle.claim_webgpu_rules.specs.WebGpu as W
-use Rattle.claim_webgpu_copies.specs.WholeCopies.{GivesBufferPlan, planned, GivesPlan, StandardCopy, PlansTextures, StandardTextures}
+use Rattle.claim_webgpu_copies.specs.WholeCopies.{GivesPlan, planned, StandardCopy, PlansTextures, StandardTextures}
 -- what is judged
 use Rattle.copy_buffers.specs.Plan.{buffer_to_buffer}
 
@@ -40,7 +37,7 @@ view_at z aspect = record { mip_level = 0; origin = record { x = record { 0 = 0 
 -- ---- between buffers: 4 bytes from the start of one to the start of another
 
 abbrev pub Buffers : Device → Buffer → Buffer → Type 0
-Buffers d src dst = GivesBufferPlan (buffer_to_buffer d 0 src 0 1 dst 0 (L.Given 4))
+Buffers d src dst = GivesPlan (buffer_to_buffer d 0 src 0 1 dst 0 (Some 4))
 
 abbrev pub StandardBuffers : Buffer → Buffer → Type 0
 StandardBuffers src dst = W.CopyBufferToBuffer false src dst 0 0 4
@@ -56,13 +53,13 @@ direction FromBuffer bytes = Upload (S.Buffer (buffer bytes 12))
 direction FromMemory bytes = Upload (S.Memory bytes)
 direction IntoBuffer bytes = Download (buffer bytes 12)
 
-abbrev pub copy : Way → Device → ℕ → OptionU32 → Texture → TexelCopyTextureInfo → Extent3d → Copy
+abbrev pub copy : Way → Device → ℕ → Option ℕ → Texture → TexelCopyTextureInfo → Extent3d → Copy
 copy way d bytes row t view size =
-    record { direction = direction way bytes; device = d; layout = record { offset = 0; bytes_per_row = row; rows_per_image = Absent }; texture = t; view = view; size = size }
+    record { direction = direction way bytes; device = d; layout = record { offset = 0; bytes_per_row = row; rows_per_image = None }; texture = t; view = view; size = size }
 
 -- one texel, or what is said, of a 2D texture
 abbrev pub texel : Way → Device → ℕ → ℕ → Extent3d → ℕ → TextureAspect → Extent3d → Copy
-texel way d bytes format size z aspect copied = copy way d bytes Absent (texture format 2 size) (view_at z aspect) copied
+texel way d bytes format size z aspect copied = copy way d bytes None (texture format 2 size) (view_at z aspect) copied
 
 -- a texture that is wider than 8,192, and a buffer of more than 268,435,456 bytes
 abbrev pub too_wide : Way → Copy
@@ -87,7 +84,7 @@ no_layer way = texel way (device true true) 0 15 (extent 1 1 2) 0 All (extent 1 
 
 -- document 01's starred point, into a buffer: depth32float 8×8, layer 1 of 2, 256 bytes per row
 abbrev pub starred : Way → Copy
-starred way = copy way (device true true) 4096 (Given 256) (texture 19 2 (extent 8 8 2)) (view_at 1 All) (extent 8 8 1)
+starred way = copy way (device true true) 4096 (Some 256) (texture 19 2 (extent 8 8 2)) (view_at 1 All) (extent 8 8 1)
 
 -- the standard accepts, however it is read, and the planner refuses
 pub record OnlyStandard (c : Copy) : Type 0 where

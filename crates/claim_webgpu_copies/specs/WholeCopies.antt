@@ -1,23 +1,15 @@
 -- Whole copies: the planner answers a plan exactly where the standard's rules hold and nothing is excepted. An exception is in the
 -- standard's words or document 01's.
-use Rattle.std.specs.Prelude.{◌≡◌, true, false, ◌⊎◌, ◌↔◌, ℕ, ◌^◌, ◌<◌, eqb}
+use Rattle.std.specs.Prelude.{◌≡◌, true, false, ◌⊎◌, ◌↔◌, ℕ, ◌^◌, ◌<◌, eqb, Option, Result, Ok}
 use Rattle.measures.specs.declared.Extent3d.{Extent3d}
-use Rattle.measures.specs.declared.OptionU64.{OptionU64}
 use Rattle.formats.specs.declared.TextureAspect.TheVariants.{All}
+use Rattle.refusals.specs.declared.TransferError.{TransferError}
 use Rattle.records.specs.declared.Buffer.{Buffer}
 use Rattle.records.specs.declared.Device.{Device}
-use Rattle.plan_buffers.specs.declared.BufferPlan.{BufferPlan}
-use Rattle.copy_buffers.specs.declared.BufferPlanned.{BufferPlanned}
-use Rattle.copy_buffers.specs.declared.BufferPlanned.TheVariants as B
 use Rattle.plan_buffer_texture.specs.declared.BufferTexturePlan.{BufferTexturePlan}
 use Rattle.copy_buffer_texture.specs.declared.UploadSource.TheVariants as S
-use Rattle.copy_buffer_texture.specs.declared.BufferTexturePlanned.{BufferTexturePlanned}
-use Rattle.copy_buffer_texture.specs.declared.BufferTexturePlanned.TheVariants as T
 use Rattle.copy_buffer_texture.specs.Copy.{Direction, Upload, Download, Copy}
 use Rattle.records.specs.declared.TextureSide.{TextureSide}
-use Rattle.plan_textures.specs.declared.TexturePlan.{TexturePlan}
-use Rattle.copy_textures.specs.declared.TexturePlanned.{TexturePlanned}
-use Rattle.copy_textures.specs.declared.TexturePlanned.TheVariants as X
 use Rattle.claim_webgpu_rules.specs.Formats.{Known, is_depth_or_stencil}
 use Rattle.claim_webgpu_rules.specs.WebGpu as W
 use Rattle.claim_webgpu_rules.specs.Agreement.{SomeLayers, Fits32, MovesWithin}
@@ -27,10 +19,11 @@ use Rattle.copy_buffers.specs.Plan.{buffer_to_buffer}
 use Rattle.copy_buffer_texture.specs.Plan.{buffer_to_texture, memory_to_texture, texture_to_buffer}
 use Rattle.copy_textures.specs.Plan.{texture_to_texture}
 
--- ---- buffer to buffer
+-- the answer is a plan, of any kind of copy
+abbrev pub GivesPlan : {P : Type 0} → Result P TransferError → Type 0
+GivesPlan {P} r = (p : P) × (r ≡ Ok p)
 
-abbrev pub GivesBufferPlan : BufferPlanned → Type 0
-GivesBufferPlan r = (p : BufferPlan) × (r ≡ B.Plan p)
+-- ---- buffer to buffer
 
 -- exception, 34: without the fact an INDEX buffer, where either buffer has VERTEX, UNIFORM, INDIRECT or STORAGE
 abbrev pub Shared : Buffer → Type 0
@@ -47,22 +40,19 @@ BuffersExcepted device src dst = (BufferInBounds src → ⊥) ⊎ ((BufferInBoun
 
 abbrev pub BufferToBuffer : Type 0
 BufferToBuffer =
-    (device : Device) (i j : ℕ) (src dst : Buffer) (srcOffset dstOffset : ℕ) (size : OptionU64)
-    → GivesBufferPlan (buffer_to_buffer device i src srcOffset j dst dstOffset size)
+    (device : Device) (i j : ℕ) (src dst : Buffer) (srcOffset dstOffset : ℕ) (size : Option ℕ)
+    → GivesPlan (buffer_to_buffer device i src srcOffset j dst dstOffset size)
     ↔ (W.CopyBufferToBuffer (eqb i j) src dst srcOffset dstOffset (W.copy_size_of src srcOffset size) × (BuffersExcepted device src dst → ⊥))
 
 -- ---- between a buffer, or memory, and a texture
 
-abbrev pub planned_by : Direction → Copy → BufferTexturePlanned
+abbrev pub planned_by : Direction → Copy → Result BufferTexturePlan TransferError
 planned_by (Upload (S.Buffer b)) c = buffer_to_texture c.device b c.layout c.texture c.view c.size
 planned_by (Upload (S.Memory length)) c = memory_to_texture c.device length c.layout c.texture c.view c.size
 planned_by (Download b) c = texture_to_buffer c.device c.texture c.view b c.layout c.size
 
-abbrev pub planned : Copy → BufferTexturePlanned
+abbrev pub planned : Copy → Result BufferTexturePlan TransferError
 planned c = planned_by c.direction c
-
-abbrev pub GivesPlan : BufferTexturePlanned → Type 0
-GivesPlan r = (p : BufferTexturePlan) × (r ≡ T.Plan p)
 
 -- the standard's rules by the way: copyBufferToTexture(), writeTexture(), copyTextureToBuffer()
 abbrev pub StandardBy : W.Reading → Direction → Copy → Type 0
@@ -116,12 +106,9 @@ BufferTextureWithLayers =
 
 -- ---- texture to texture
 
-abbrev pub GivesTexturePlan : TexturePlanned → Type 0
-GivesTexturePlan r = (p : TexturePlan) × (r ≡ X.Plan p)
-
 module _ (i j : ℕ) (src dst : TextureSide) (size : Extent3d) where
   abbrev pub PlansTextures : Type 0
-  PlansTextures = GivesTexturePlan (texture_to_texture i src j dst size)
+  PlansTextures = GivesPlan (texture_to_texture i src j dst size)
 
   abbrev pub Rules : W.Reading → Type 0
   Rules reading = W.TextureCopyRules reading src.texture dst.texture src.view dst.view size

@@ -6,6 +6,7 @@ ghost use Rattle.claim_webgpu_copies.specs.Examples.{Examples};
 ghost use Rattle.claim_webgpu_copies.specs.WholeCopies.{BufferToBuffer, BufferTexture, BufferTextureWithLayers, TextureToTexture, TextureToTextureWithLayers, OntoItselfParts};
 
 // Records are within their bounds exactly where document 01 has them so.
+#[tactic(auto, using(crate::proofs::Records::record_bounds))]
 pub fn records_agree()
     ensures { RecordBounds }
 {}
@@ -29,6 +30,7 @@ pub fn texture_to_texture_agrees()
 {}
 
 // At a small copy of each exception the planner and the standard differ.
+#[tactic(auto, using(crate::proofs::Parting::examples))]
 pub fn examples_differ()
     ensures { Examples }
 {}

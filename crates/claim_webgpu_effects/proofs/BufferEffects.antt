@@ -1,15 +1,15 @@
 -- Between a buffer, or memory, and a texture: the regions put the blocks where the standard's copy has them, and no others.
 -- Assumes nothing.
+use Rattle.std.specs.Prelude.{Option, Some, None}
+use Rattle.std.proofs.lemmas.Bool.{or_right}
 use mathlib.Core.Path.{◌≡◌, refl, sym, ap, ◌∙◌}
-use mathlib.Core.Bool.{Bool, true, false, ◌||◌}
+use mathlib.Core.Bool.{Bool, true, false}
 use mathlib.Core.List.{List}
 use Prim.Native.Nat.{ℕ, ◌+◌, ◌-◌, ◌*◌, ◌/◌, ◌%◌, ◌^◌, ◌≤◌, ◌<◌}
 use native.Mathlib.Omega.{arith}
 use native.Mathlib.Nat.{mul-le-mul_right}
 use lib.Dec.{ltb}
 use borrow.Author.Tests.{ne_eqb, lt-ltb}
-use Rattle.measures.specs.declared.OptionU32.{OptionU32}
-use Rattle.measures.specs.declared.OptionU32.TheVariants.{Given, Absent}
 use Rattle.measures.specs.Measure.{blocks_of, in_blocks}
 use Rattle.measures.proofs.Rounding.{block_laws}
 use Rattle.mip_levels.specs.declared.TextureDimension.{TextureDimension}
@@ -27,7 +27,7 @@ use Rattle.measures.specs.Measure.{is_empty}
 use Rattle.plan_buffer_texture.specs.declared.BufferTextureCopy.{BufferTextureCopy}
 use Rattle.plan_buffer_texture.specs.declared.BufferTexturePlan.{BufferTexturePlan}
 use Rattle.plan_buffer_texture.specs.Plan.{first_region, plan_of}
-use Rattle.claim_webgpu_rules.specs.Formats.{Part, Format, Known, format_of, dimension_of}
+use Rattle.claim_webgpu_rules.specs.Formats.{Part, Format, Known, format_of}
 use Rattle.claim_webgpu_rules.specs.WebGpu.{or_zero, IsGiven}
 use Rattle.claim_webgpu_rules.proofs.Rows.{row_of}
 use Rattle.claim_webgpu_rules.proofs.Sizes.{dimension_is}
@@ -38,7 +38,7 @@ use Rattle.claim_ownership.proofs.Accepted.{Checks, checks_of_lem}
 use Rattle.claim_ownership.proofs.Sound.{size_is, sound_of}
 use Rattle.claim_ownership.proofs.Asks.{next_regions, gives, gives_only}
 use Rattle.claim_webgpu_effects.specs.Blocks.{TexelBlock, In}
-use Rattle.claim_webgpu_effects.specs.Standard.{layer_of, Stands}
+use Rattle.claim_webgpu_effects.specs.Standard.{Stands}
 use Rattle.claim_webgpu_effects.specs.Regions.{or_dense, Puts}
 use Rattle.claim_webgpu_effects.specs.Effects.{BufferDoes, BufferEffects}
 use Rattle.claim_webgpu_effects.proofs.Formats.{named_has, has_named}
@@ -56,14 +56,10 @@ stacked_some : (n stride last : ℕ) → 0 < n → stacked n stride last ≡ (n 
 unfolding stacked
 stacked_some n stride last h = rw (ne_eqb n 0 (λ e. omega arith))
 
-is_given : (o : OptionU32) (needed : Bool) → lacks o needed ≡ false → needed ≡ true → IsGiven o
+is_given : (o : Option ℕ) (needed : Bool) → lacks o needed ≡ false → needed ≡ true → IsGiven o
 unfolding lacks
-is_given (Given n) needed e f = tt
-is_given Absent needed e f = let z : ◌≡◌ {A = ℕ} 0 1 = cc in absurd (omega arith)
-
-or_right : (s t : Bool) → t ≡ true → (s || t) ≡ true
-or_right true t e = refl
-or_right false t e = e
+is_given (Some n) needed e f = tt
+is_given None needed e f = let z : ◌≡◌ {A = ℕ} 0 1 = cc in absurd (omega arith)
 
 module _ (c : Copy) (p : BufferTexturePlan) (k : Checks c p) (fits : LengthFits c.direction) (known : Known c.texture.format) where
   abbrev plan : BufferTexturePlan
@@ -127,14 +123,12 @@ module _ (c : Copy) (p : BufferTexturePlan) (k : Checks c p) (fits : LengthFits 
       let total = stacked_some d plan.stride (image_bytes_of c.layout dense) s.0 in
       (omega (arith, inside, total), n.1)
 
-  -- ---- a region's block is the standard's
-
   -- ---- strides
 
-  abbrev bytes_per_row_of : OptionU32
+  abbrev bytes_per_row_of : Option ℕ
   bytes_per_row_of = c.layout.bytes_per_row
 
-  abbrev rows_per_image_of : OptionU32
+  abbrev rows_per_image_of : Option ℕ
   rows_per_image_of = c.layout.rows_per_image
 
   abbrev high : ℕ

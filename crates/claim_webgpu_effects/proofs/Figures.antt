@@ -1,5 +1,6 @@
 -- Distances in blocks and in texels, strides, and images.
 -- Assumes nothing.
+use Rattle.std.specs.Prelude.{Option, Some, None}
 use mathlib.Core.Path.{◌≡◌, refl, sym, ap, ◌∙◌}
 use mathlib.Core.Bool.{Bool, false, ◌||◌}
 use Prim.Native.Nat.{ℕ, zero, suc, ◌+◌, ◌*◌, ◌/◌, ◌%◌, ◌≤◌, ◌<◌}
@@ -8,8 +9,6 @@ use native.Mathlib.Nat.{zero-add, zero-mul, mul_assoc, add-mul, mod-add-mod, div
 use lib.Dec.{eqb}
 use borrow.Author.Tests.{ne_eqb, eqb-false}
 use Rattle.conditions.proofs.Rules.{neither}
-use Rattle.measures.specs.declared.OptionU32.{OptionU32}
-use Rattle.measures.specs.declared.OptionU32.TheVariants.{Given, Absent}
 use Rattle.measures.specs.Measure.{or_else}
 use Rattle.mip_levels.specs.declared.TextureDimension.{TextureDimension}
 use Rattle.mip_levels.specs.declared.TextureDimension.TheVariants.{D1, D2, D3}
@@ -72,17 +71,17 @@ not_above (suc n) f = absurd (f (omega arith))
 -- ---- strides: a value that is absent is only multiplied by 0
 
 pub strides :
-    (row rows : OptionU32) (a b d e m z k j : ℕ) → m + z ≡ k → (0 < k → IsGiven row × IsGiven rows) → (0 < j → IsGiven row)
+    (row rows : Option ℕ) (a b d e m z k j : ℕ) → m + z ≡ k → (0 < k → IsGiven row × IsGiven rows) → (0 < j → IsGiven row)
     → m * (or_else rows a * or_else row b) + z * (or_dense rows d * or_dense row e) + j * or_dense row e ≡ k * or_zero rows * or_zero row + j * or_zero row
 unfolding or_else
-strides (Given r) (Given n) a b d e m z k j s hk hj =
+strides (Some r) (Some n) a b d e m z k j s hk hj =
     rw (← s, mul_assoc (m + z) n r, add-mul m z (n * r))
-strides (Given r) Absent a b d e m z k j s hk hj =
+strides (Some r) None a b d e m z k j s hk hj =
     let k₀ = not_above k (λ p. (hk p).1) in
     let m₀ : m ≡ 0 = omega arith in
     let z₀ : z ≡ 0 = omega arith in
     rw (m₀, z₀, k₀) (omega (arith, zero-mul (a * r), zero-mul (d * r), zero-mul r))
-strides Absent rows a b d e m z k j s hk hj =
+strides None rows a b d e m z k j s hk hj =
     let k₀ = not_above k (λ p. (hk p).0) in
     let j₀ = not_above j hj in
     let m₀ : m ≡ 0 = omega arith in

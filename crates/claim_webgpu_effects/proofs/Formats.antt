@@ -2,11 +2,10 @@
 -- format of the standard.
 -- Assumes nothing.
 use mathlib.Core.Path.{◌≡◌, refl, sym, ap, ◌∙◌}
-use mathlib.Core.Bool.{Bool, true, false, ◌&&◌, ◌||◌, cond}
+use mathlib.Core.Bool.{Bool, true, false, true≢false, false≢true, ◌&&◌, ◌||◌, cond}
 use mathlib.Core.List.{List, [], ◌∷◌}
 use mathlib.Core.Logic.{◌⊎◌, inl, inr}
 use Prim.Native.Nat.{ℕ, ◌/◌, ◌%◌}
-use native.Mathlib.Omega.{arith}
 use lib.Dec.{eqb}
 use borrow.Author.Tests.{eqb-true, eq-eqb}
 use Rattle.conditions.proofs.Rules.{both_true, either}
@@ -55,9 +54,6 @@ all_aspects Plane0 = refl
 all_aspects Plane1 = refl
 all_aspects Plane2 = refl
 
-no : {C : Type 0} → ◌≡◌ {A = Bool} true false → C
-no e = let z : ◌≡◌ {A = ℕ} 0 1 = cc in absurd (omega arith)
-
 pub nowhere : {A C : Type 0} {a : A} → In a [] → C
 nowhere = elim [ ]
 
@@ -84,7 +80,7 @@ module _ (asked : TextureAspect) (word : ℕ) (part : Part) where
           → In part (cond t (p ∷ named_of ps asked) (named_of ps asked))
       go true s rest (first q) = first q
       go true s rest (later i) = later (rest i)
-      go false s rest (first q) = no (sym (bit_has word part.aspect k) ∙ ap (λ (x : Part). has_b word x.aspect) (sym q) ∙ sym s)
+      go false s rest (first q) = absurd (true≢false (sym (bit_has word part.aspect k) ∙ ap (λ (x : Part). has_b word x.aspect) (sym q) ∙ sym s))
       go false s rest (later i) = rest i
 
 module _ (format : ℕ) (asked : TextureAspect) (known : Known format) (part : Part) where
@@ -143,13 +139,13 @@ same_aspect Stencil Stencil = true
 is_aspect : (a b : Aspect) → same_aspect a b ≡ true → a ≡ b
 unfolding same_aspect
 is_aspect Color Color e = refl
-is_aspect Color Depth e = no (sym e)
-is_aspect Color Stencil e = no (sym e)
-is_aspect Depth Color e = no (sym e)
+is_aspect Color Depth e = absurd (false≢true e)
+is_aspect Color Stencil e = absurd (false≢true e)
+is_aspect Depth Color e = absurd (false≢true e)
 is_aspect Depth Depth e = refl
-is_aspect Depth Stencil e = no (sym e)
-is_aspect Stencil Color e = no (sym e)
-is_aspect Stencil Depth e = no (sym e)
+is_aspect Depth Stencil e = absurd (false≢true e)
+is_aspect Stencil Color e = absurd (false≢true e)
+is_aspect Stencil Depth e = absurd (false≢true e)
 is_aspect Stencil Stencil e = refl
 
 any_part : Aspect → List Part → Bool
@@ -170,7 +166,7 @@ PartOf a ps = (p : Part) × In p ps × (p.aspect ≡ a)
 
 some_part : (a : Aspect) (ps : List Part) → any_part a ps ≡ true → PartOf a ps
 unfolding any_part
-some_part a [] e = no (sym e)
+some_part a [] e = absurd (false≢true e)
 some_part a (p ∷ ps) e = go (either _ _ e) (some_part a ps)
   where
     go : (same_aspect p.aspect a ≡ true) ⊎ (any_part a ps ≡ true) → (any_part a ps ≡ true → PartOf a ps) → PartOf a (p ∷ ps)
@@ -201,7 +197,7 @@ unfolding some_parts is_some named chosen_aspects asked_of
 named_all format asked known e = go (format_of format).parts refl (at_below some_parts 21 all_some format (below format known))
   where
     go : (ps : List Part) → (format_of format).parts ≡ ps → is_some ps ≡ true → (p : Part) × In p (named (format_of format) asked)
-    go [] q s = no (sym s)
+    go [] q s = absurd (false≢true s)
     go (p ∷ ps) q s =
         let here : In p (format_of format).parts = rw q (first refl) in
         let all : In p (named (format_of format) All) = rw q (first refl) in

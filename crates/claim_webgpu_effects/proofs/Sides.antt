@@ -10,7 +10,6 @@ use Rattle.mip_levels.specs.declared.TextureDimension.{TextureDimension}
 use Rattle.mip_levels.specs.declared.TextureDimension.TheVariants.{D1, D2, D3}
 use Rattle.mip_levels.specs.Level as L
 use Rattle.mip_levels.specs.Level.{mip_level_size, texels_at}
-use Rattle.formats.specs.Table.{block_width_of, block_height_of}
 use Rattle.formats.proofs.Rows.{every_format}
 use Rattle.records.specs.declared.Texture.{Texture}
 use Rattle.records.specs.declared.TexelCopyTextureInfo.{TexelCopyTextureInfo}

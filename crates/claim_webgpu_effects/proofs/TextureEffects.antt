@@ -20,7 +20,7 @@ use Rattle.claim_texture_regions.proofs.Accepted as A
 use Rattle.claim_texture_regions.proofs.Same.{same_layers, same_depth, same_layer, same_z}
 use Rattle.claim_texture_regions.proofs.Claims.{every_texture_copy}
 use Rattle.claim_webgpu_effects.specs.Blocks.{TexelBlock, In}
-use Rattle.claim_webgpu_effects.specs.Standard.{layer_of, block_at, ImageCopied}
+use Rattle.claim_webgpu_effects.specs.Standard.{block_at, ImageCopied}
 use Rattle.claim_webgpu_effects.specs.Regions.{Carries}
 use Rattle.claim_webgpu_effects.specs.Effects.{Accepted, CarriedBy, dimension, TextureEffects}
 use Rattle.claim_webgpu_effects.proofs.Formats.{HasBit, named_has, has_named, part_of, named_all, Alike}

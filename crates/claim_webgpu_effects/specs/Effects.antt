@@ -1,13 +1,11 @@
 -- The regions that an accepted copy's plan gives do what the standard's copy does, block by block, and nothing else.
-use Rattle.std.specs.Prelude.{◌≡◌, List, ◌⊎◌, ◌↔◌, ℕ, ◌≤◌}
+use Rattle.std.specs.Prelude.{◌≡◌, List, ◌⊎◌, ◌↔◌, ℕ, ◌≤◌, Ok}
 use Rattle.plan_buffer_texture.specs.declared.BufferTextureCopy.{BufferTextureCopy}
 use Rattle.plan_buffer_texture.specs.declared.BufferTexturePlan.{BufferTexturePlan}
-use Rattle.copy_buffer_texture.specs.declared.BufferTexturePlanned.TheVariants.{Plan}
 use Rattle.mip_levels.specs.declared.TextureDimension.{TextureDimension}
 use Rattle.records.specs.declared.TextureSide.{TextureSide}
 use Rattle.plan_textures.specs.declared.TextureCopy.{TextureCopy}
 use Rattle.plan_textures.specs.declared.TexturePlan.{TexturePlan}
-use Rattle.copy_textures.specs.declared.TexturePlanned.TheVariants as P
 use Rattle.copy_textures.specs.Plan.{texture_to_texture}
 use Rattle.claim_webgpu_rules.specs.Formats.{Known, format_of, dimension_of}
 use Rattle.copy_buffer_texture.specs.Copy.{Copy}
@@ -32,7 +30,7 @@ pub record BufferDoes (c : Copy) (p : BufferTexturePlan) : Type 0 where
 
 -- of every accepted copy, from a buffer, from memory or into a buffer, of a format of the standard, sizes of 0 included
 abbrev pub BufferEffects : Type 0
-BufferEffects = (c : Copy) (p : BufferTexturePlan) → B.LengthFits c.direction → B.planned c ≡ Plan p → Known c.texture.format → BufferDoes c p
+BufferEffects = (c : Copy) (p : BufferTexturePlan) → B.LengthFits c.direction → B.planned c ≡ Ok p → Known c.texture.format → BufferDoes c p
 
 -- ---- between textures
 
@@ -41,7 +39,7 @@ pub record Accepted (c : T.Copy) (rs : List TextureCopy) : Type 0 where
   pub i : ℕ
   pub j : ℕ
   pub plan : TexturePlan
-  pub planned : texture_to_texture i c.src j c.dst c.size ≡ P.Plan plan
+  pub planned : texture_to_texture i c.src j c.dst c.size ≡ Ok plan
   pub src_known : Known c.src.texture.format
   pub dst_known : Known c.dst.texture.format
   pub given : A.Gives plan rs

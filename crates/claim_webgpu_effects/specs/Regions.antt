@@ -1,7 +1,5 @@
 -- What a region does, from document 01's modules 4 and 8.
-use Rattle.std.specs.Prelude.{◌≡◌, ℕ, ◌+◌, ◌*◌, ◌/◌, ◌%◌, ◌<◌}
-use Rattle.measures.specs.declared.OptionU32.{OptionU32}
-use Rattle.measures.specs.declared.OptionU32.TheVariants.{Given, Absent}
+use Rattle.std.specs.Prelude.{◌≡◌, ℕ, ◌+◌, ◌*◌, ◌/◌, ◌%◌, ◌<◌, Option, Some, None}
 use Rattle.rule_selectors.specs.declared.TextureCopyBase.{TextureCopyBase}
 use Rattle.plan_buffer_texture.specs.declared.BufferTextureCopy.{BufferTextureCopy}
 use Rattle.plan_textures.specs.declared.TextureCopy.{TextureCopy}
@@ -30,9 +28,9 @@ block_from base aspect dx dy dz =
     }
 
 -- an absent value counts as the dense one
-abbrev pub or_dense : OptionU32 → ℕ → ℕ
-or_dense (Given n) dense = n
-or_dense Absent dense = dense
+abbrev pub or_dense : Option ℕ → ℕ → ℕ
+or_dense (Some n) dense = n
+or_dense None dense = dense
 
 -- a region names the blocks of its level, aspect bits and layer that start in its x, y, z, w, h, d, and puts them by module 4's
 -- formula, i, j, k from its own start, with its offset, bytes and rows

@@ -1,5 +1,6 @@
 -- Formats, aspects and alignment of copies with a buffer against the standard's tables.
 -- Assumes nothing.
+use Rattle.std.specs.Prelude.{Option, Some, None, Result, Ok, Err}
 use mathlib.Core.Path.{◌≡◌, refl, sym, ap, ◌∙◌}
 use mathlib.Core.Bool.{Bool, true, false, not, ◌&&◌, ◌||◌, cond}
 use Prim.Native.Nat.{ℕ, ◌%◌}
@@ -8,16 +9,12 @@ use lib.Dec.{eqb}
 use borrow.Author.Tests.{eqb-true, eq-eqb, not-true, not-false}
 use Rattle.conditions.proofs.Rules.{both_true, not_both}
 use Rattle.conditions.proofs.Tables.{every_below, at_below}
-use Rattle.measures.specs.declared.OptionU32.{OptionU32}
-use Rattle.measures.specs.declared.OptionU32.TheVariants.{Given, Absent}
 use Rattle.measures.specs.Measure.{multiple, or_else}
 use Rattle.flags.specs.Flags.{is_one}
 use Rattle.formats.specs.declared.TextureAspect.{TextureAspect}
 use Rattle.formats.specs.declared.TextureAspect.TheVariants.{All, StencilOnly, DepthOnly, Plane0, Plane1, Plane2}
 use Rattle.formats.specs.Table.{is_depth_stencil}
 use Rattle.formats.specs.Aspects.{block_copy_size}
-use Rattle.refusals.specs.declared.Checked.{Checked}
-use Rattle.refusals.specs.declared.Checked.TheVariants as C
 use Rattle.refusals.specs.Order.{Checks, refuse_if, first, decided, checked}
 use Rattle.refusals.proofs.Order.{all_pass, none_in, test_fails, test_off, checked_passes}
 use Rattle.records.specs.declared.Texture.{Texture}
@@ -27,12 +24,13 @@ use Rattle.claim_webgpu_rules.specs.Formats.{none, formats, format_of, any_depth
 use Rattle.claim_webgpu_rules.specs.WebGpu.{taken, valid_one, bytes_of_one, block_bytes, AlignedLayout, TextureBufferCopy}
 use Rattle.claim_webgpu_rules.specs.Agreement.{bits, format_rule, InStandard, BufferCopies}
 use Rattle.claim_webgpu_rules.proofs.Rows.{same, same_is, below, row_of, taken_is}
+use Rattle.refusals.specs.declared.TransferError.{TransferError}
 
 -- ---- the tables, by one test that is computed of every format and aspect
 
-goes_b : Checked → Bool
-goes_b C.GoOn = true
-goes_b (C.Refused e) = false
+goes_b : Result Unit TransferError → Bool
+goes_b (Ok tt) = true
+goes_b (Err e) = false
 
 -- a color format, and another aspect than all
 lacking : TextureAspect → ℕ → Bool
@@ -92,7 +90,7 @@ record Agrees (reads : Bool) (format : ℕ) (aspect : TextureAspect) : Type 0 wh
   allowed : (goes_b (format_rule reads format aspect) && is_one (bits (named (format_of format) aspect))) ≡ valid_one reads (taken format aspect)
   bytes : is_depth_or_stencil format ≡ false → or_else (block_copy_size format aspect) 1 ≡ block_bytes format aspect
 
-some_bytes : (n : ℕ) → not (eqb n none) ≡ true → or_else (cond (eqb n none) Absent (Given n)) 1 ≡ n
+some_bytes : (n : ℕ) → not (eqb n none) ≡ true → or_else (cond (eqb n none) None (Some n)) 1 ≡ n
 unfolding or_else
 some_bytes n e = rw (not-true (eqb n none) e)
 
@@ -111,12 +109,12 @@ agreed reads format aspect s =
           ∙ ap bytes_of_one (sym (taken_is format aspect s));
     }
 
-goes_of : (c : Checked) → goes_b c ≡ true → c ≡ C.GoOn
+goes_of : (c : Result Unit TransferError) → goes_b c ≡ true → c ≡ (Ok tt)
 unfolding goes_b
-goes_of C.GoOn e = refl
-goes_of (C.Refused why) e = let z : ◌≡◌ {A = ℕ} 0 1 = cc in absurd (omega arith)
+goes_of (Ok tt) e = refl
+goes_of (Err why) e = let z : ◌≡◌ {A = ℕ} 0 1 = cc in absurd (omega arith)
 
-goes_by : (c : Checked) → c ≡ C.GoOn → goes_b c ≡ true
+goes_by : (c : Result Unit TransferError) → c ≡ (Ok tt) → goes_b c ≡ true
 unfolding goes_b
 goes_by c e = rw e
 
@@ -130,15 +128,15 @@ no_rest : (n m : ℕ) → n % m ≡ 0 → multiple n m ≡ true
 unfolding multiple
 no_rest n m e = eq-eqb (n % m) 0 e
 
-row_whole : (o : OptionU32) → is_unaligned_row o ≡ false → (n : ℕ) → o ≡ Given n → n % 256 ≡ 0
+row_whole : (o : Option ℕ) → is_unaligned_row o ≡ false → (n : ℕ) → o ≡ Some n → n % 256 ≡ 0
 unfolding is_unaligned_row
-row_whole (Given m) e n q = let s : m ≡ n = cc in rw (← s) (rest_of m 256 (not-false (multiple m 256) e))
-row_whole Absent e n q = let z : ◌≡◌ {A = ℕ} 0 1 = cc in absurd (omega arith)
+row_whole (Some m) e n q = let s : m ≡ n = cc in rw (← s) (rest_of m 256 (not-false (multiple m 256) e))
+row_whole None e n q = let z : ◌≡◌ {A = ℕ} 0 1 = cc in absurd (omega arith)
 
-row_by : (o : OptionU32) → ((n : ℕ) → o ≡ Given n → n % 256 ≡ 0) → is_unaligned_row o ≡ false
+row_by : (o : Option ℕ) → ((n : ℕ) → o ≡ Some n → n % 256 ≡ 0) → is_unaligned_row o ≡ false
 unfolding is_unaligned_row
-row_by (Given m) h = rw (no_rest m 256 (h m refl))
-row_by Absent h = refl
+row_by (Some m) h = rw (no_rest m 256 (h m refl))
+row_by None h = refl
 
 module _ (reads : Bool) (format : ℕ) (aspect : TextureAspect) (layout : TexelCopyBufferLayout) (g : Agrees reads format aspect) where
   abbrev alignment : ℕ
@@ -183,7 +181,7 @@ module _ (reads aligned : Bool) (t : Texture) (aspect : TextureAspect) (layout :
   g : Agrees reads t.format aspect
   g = agreed reads t.format aspect s
 
-  standard : format_rule reads t.format aspect ≡ C.GoOn → checked rule ≡ C.GoOn → TextureBufferCopy reads aligned t aspect layout
+  standard : format_rule reads t.format aspect ≡ (Ok tt) → checked rule ≡ (Ok tt) → TextureBufferCopy reads aligned t aspect layout
   unfolding layout_checks
   standard f e =
       let n = none_in rule (checked_passes rule e) in
@@ -197,10 +195,10 @@ module _ (reads aligned : Bool) (t : Texture) (aspect : TextureAspect) (layout :
   both : TextureBufferCopy reads aligned t aspect layout → (goes_b (format_rule reads t.format aspect) ≡ true) × (is_one chosen ≡ true)
   both v = both_true (goes_b (format_rule reads t.format aspect)) (is_one chosen) (g.allowed ∙ v.allowed)
 
-  ours : TextureBufferCopy reads aligned t aspect layout → checked rule ≡ C.GoOn
+  ours : TextureBufferCopy reads aligned t aspect layout → checked rule ≡ (Ok tt)
   unfolding layout_checks
   ours v =
-      all_pass Checked C.Refused C.GoOn rule (
+      all_pass Unit tt rule (
         test_off _ _ (rw (eq-eqb t.sample_count 1 v.one_sample)),
         (
           test_off _ _ (rw (both v).1),

@@ -1,5 +1,6 @@
 -- The rule of linear data against the standard's.
 -- Assumes nothing.
+use Rattle.std.specs.Prelude.{Option, Some, None, Ok}
 use mathlib.Core.Path.{◌≡◌, refl, sym, ap, ◌∙◌}
 use mathlib.Core.Bool.{Bool, true, false, ◌||◌, cond}
 use mathlib.Core.Logic.{◌⊎◌, ⊎_elim}
@@ -11,8 +12,6 @@ use borrow.Author.Tests.{lt-ltb, ltb-true, ltb-false}
 use Rattle.conditions.specs.Conditions.{pick}
 use Rattle.conditions.proofs.Rules.{either}
 use Rattle.measures.specs.declared.Extent3d.{Extent3d}
-use Rattle.measures.specs.declared.OptionU32.{OptionU32}
-use Rattle.measures.specs.declared.OptionU32.TheVariants.{Given, Absent}
 use Rattle.measures.specs.Measure.{blocks_of, in_blocks, or_else}
 use Rattle.measures.proofs.Rounding.{blocks_of_whole}
 use Rattle.formats.specs.declared.TextureAspect.{TextureAspect}
@@ -22,7 +21,6 @@ use Rattle.refusals.specs.declared.CopySide.{CopySide}
 use Rattle.records.specs.declared.TexelCopyBufferLayout.{TexelCopyBufferLayout}
 use Rattle.rule_linear_data.specs.declared.Dense.{Dense}
 use Rattle.rule_linear_data.specs.declared.LinearData.{LinearData}
-use Rattle.rule_linear_data.specs.declared.LinearChecked.TheVariants as N
 use Rattle.rule_linear_data.specs.Linear as linear
 use Rattle.rule_linear_data.specs.Linear.{lacks, stacked, several_rows, several_images, row_stride_of, image_rows_of, image_stride_of, image_bytes_of, total_bytes, data_of, linear_data, dense_of, linear_checked}
 use Rattle.rule_linear_data.proofs.Accepted.{linear_goes, linear_went}
@@ -33,37 +31,37 @@ use Rattle.claim_webgpu_rules.proofs.Rows.{row_of, bytes_are}
 
 -- ---- given or absent
 
-at_least : (o : OptionU32) (n : ℕ) → n ≤ or_else o n → AtLeast o n
+at_least : (o : Option ℕ) (n : ℕ) → n ≤ or_else o n → AtLeast o n
 unfolding or_else
-at_least (Given m) n h = h
-at_least Absent n h = tt
+at_least (Some m) n h = h
+at_least None n h = tt
 
-or_else_lem : (o : OptionU32) (n : ℕ) → AtLeast o n → n ≤ or_else o n
+or_else_lem : (o : Option ℕ) (n : ℕ) → AtLeast o n → n ≤ or_else o n
 unfolding or_else
-or_else_lem (Given m) n h = h
-or_else_lem Absent n h = omega arith
+or_else_lem (Some m) n h = h
+or_else_lem None n h = omega arith
 
-is_given : (o : OptionU32) (needed : Bool) → lacks o needed ≡ false → needed ≡ true → IsGiven o
+is_given : (o : Option ℕ) (needed : Bool) → lacks o needed ≡ false → needed ≡ true → IsGiven o
 unfolding lacks
-is_given (Given m) needed h e = tt
-is_given Absent needed h e = let z : ◌≡◌ {A = ℕ} 0 1 = cc in absurd (omega arith)
+is_given (Some m) needed h e = tt
+is_given None needed h e = let z : ◌≡◌ {A = ℕ} 0 1 = cc in absurd (omega arith)
 
-not_lacking : (o : OptionU32) (needed : Bool) → (needed ≡ true → IsGiven o) → lacks o needed ≡ false
+not_lacking : (o : Option ℕ) (needed : Bool) → (needed ≡ true → IsGiven o) → lacks o needed ≡ false
 unfolding lacks
-not_lacking (Given m) needed h = refl
-not_lacking Absent true h = absurd (h refl)
-not_lacking Absent false h = refl
+not_lacking (Some m) needed h = refl
+not_lacking None true h = absurd (h refl)
+not_lacking None false h = refl
 
 -- a given value is itself under both readings
-same_given : (o : OptionU32) (n : ℕ) → IsGiven o → or_else o n ≡ or_zero o
+same_given : (o : Option ℕ) (n : ℕ) → IsGiven o → or_else o n ≡ or_zero o
 unfolding or_else
-same_given (Given m) n h = refl
-same_given Absent n h = absurd h
+same_given (Some m) n h = refl
+same_given None n h = absurd h
 
-fits32 : (o : OptionU32) (n : ℕ) → Fits32 o → n < 2 ^ 32 → or_else o n < 2 ^ 32
+fits32 : (o : Option ℕ) (n : ℕ) → Fits32 o → n < 2 ^ 32 → or_else o n < 2 ^ 32
 unfolding or_else
-fits32 (Given m) n f h = f
-fits32 Absent n f h = h
+fits32 (Some m) n f h = f
+fits32 None n f h = h
 
 -- ---- the bytes: both readings agree where what has to be given is given
 
@@ -176,7 +174,7 @@ module _ (layout : TexelCopyBufferLayout) (format : ℕ) (aspect : TextureAspect
   unfolding required_bytes_in_copy
   required_is = rw (wide, high, deep)
 
-  holds : (m : LinearData) → linear_checked layout format aspect bufferSize side size ≡ N.GoOn m → Standard layout format aspect size bufferSize × (m.bytes_in_copy ≡ required_bytes layout format aspect size bufferSize)
+  holds : (m : LinearData) → linear_checked layout format aspect bufferSize side size ≡ Ok m → Standard layout format aspect size bufferSize × (m.bytes_in_copy ≡ required_bytes layout format aspect size bufferSize)
   unfolding data_of
   holds m e =
       let r = linear_went layout format aspect bufferSize side size m e in
@@ -194,7 +192,7 @@ module _ (layout : TexelCopyBufferLayout) (format : ℕ) (aspect : TextureAspect
         sym (ap (λ (n : LinearData). n.bytes_in_copy) r.1) ∙ t,
       )
 
-  goes_on : Standard layout format aspect size bufferSize → (m : LinearData) × (linear_checked layout format aspect bufferSize side size ≡ N.GoOn m)
+  goes_on : Standard layout format aspect size bufferSize → (m : LinearData) × (linear_checked layout format aspect bufferSize side size ≡ Ok m)
   unfolding several_rows several_images
   goes_on v =
       let row_small : d.row_bytes < 2 ^ 32 = rw wide f.row_small in

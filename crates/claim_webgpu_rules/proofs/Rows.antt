@@ -1,5 +1,6 @@
 -- The planner's table of formats against the standard's, by tests that are computed of every row.
 -- Assumes nothing.
+use Rattle.std.specs.Prelude.{Some, None}
 use mathlib.Core.Path.{◌≡◌, refl, sym, ap, ◌∙◌}
 use mathlib.Core.Bool.{Bool, true, false, not, cond}
 use mathlib.Core.List.{List, [], ◌∷◌}
@@ -11,7 +12,6 @@ use borrow.Author.Tests.{ltb-true, ltb-false, lt-ltb, eqb-true, eqb-false}
 use Rattle.conditions.specs.Conditions.{pick, every, stop_if}
 use Rattle.conditions.proofs.Rules.{all_true}
 use Rattle.conditions.proofs.Tables.{every_below, at_below}
-use Rattle.measures.specs.declared.OptionU32.TheVariants.{Given, Absent}
 use Rattle.measures.specs.Measure.{or_else}
 use Rattle.flags.specs.Flags.{meet}
 use Rattle.formats.specs.declared.TextureAspect.{TextureAspect}
@@ -75,10 +75,10 @@ below f k = k
 
 -- ---- a row
 
-given_alike : (m n : ℕ) → m ≡ n → unless_none m ≡ cond (eqb n none) Absent (Given n)
+given_alike : (m n : ℕ) → m ≡ n → unless_none m ≡ cond (eqb n none) None (Some n)
 given_alike m n e = rw e (go (eqb n none))
   where
-    go : (t : Bool) → pick t Absent (Given n) ≡ cond t Absent (Given n)
+    go : (t : Bool) → pick t None (Some n) ≡ cond t None (Some n)
     go true = refl
     go false = refl
 
@@ -130,11 +130,11 @@ taken_is f a s = go (is_depth_or_stencil f) refl
     go true e = refl
     go false e = rw (s.color e) (sym (all_named (format_of f).parts))
 
-or_zero_lem : (n : ℕ) → or_else (cond (eqb n none) Absent (Given n)) 0 ≡ n
+or_zero_lem : (n : ℕ) → or_else (cond (eqb n none) None (Some n)) 0 ≡ n
 unfolding or_else
 or_zero_lem n = go (eqb n none) refl
   where
-    go : (t : Bool) → eqb n none ≡ t → or_else (cond t Absent (Given n)) 0 ≡ n
+    go : (t : Bool) → eqb n none ≡ t → or_else (cond t None (Some n)) 0 ≡ n
     go true e = sym (eqb-true n none e)
     go false e = refl
 

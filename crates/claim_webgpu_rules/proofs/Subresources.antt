@@ -1,5 +1,6 @@
 -- Copies within one texture against the standard's sets of subresources.
 -- Assumes nothing.
+use Rattle.std.specs.Prelude.{Result, Ok, Err}
 use mathlib.Core.Path.{◌≡◌, refl, sym, ◌∙◌}
 use mathlib.Core.Bool.{Bool, true, false, ◌&&◌, ◌||◌}
 use mathlib.Core.List.{List, [], ◌∷◌}
@@ -18,8 +19,6 @@ use Rattle.mip_levels.specs.declared.TextureDimension.TheVariants.{D1, D2, D3}
 use Rattle.formats.specs.declared.TextureAspect.{TextureAspect}
 use Rattle.formats.specs.declared.TextureAspect.TheVariants.{All, StencilOnly, DepthOnly, Plane0, Plane1, Plane2}
 use Rattle.formats.specs.Aspects.{chosen_aspects}
-use Rattle.refusals.specs.declared.Checked.{Checked}
-use Rattle.refusals.specs.declared.Checked.TheVariants as C
 use Rattle.refusals.specs.Order.{Checks, checked}
 use Rattle.refusals.proofs.Order.{all_pass as none-refuses, none_in, test_fails, test_off, checked_passes}
 use Rattle.records.specs.declared.Texture.{Texture}
@@ -29,6 +28,7 @@ use Rattle.claim_webgpu_rules.specs.Formats.{Aspect, Color, Depth, Stencil, Part
 use Rattle.claim_webgpu_rules.specs.WebGpu.{Subresource, Among, InSet, LayerOf, Disjoint}
 use Rattle.claim_webgpu_rules.specs.Agreement.{bits, layers_of, MovesWithin, AllowsWithin, SameTexture, SameTextureParts}
 use Rattle.claim_webgpu_rules.proofs.Rows.{same, same_is, decided, below, row_of}
+use Rattle.refusals.specs.declared.TransferError.{TransferError}
 
 -- ---- aspects that meet: a test of each of the three, computed of every format and two views
 
@@ -227,9 +227,9 @@ module _ (t : Texture) (src dst : TexelCopyTextureInfo) (size : Extent3d) (k : K
   unfolding same_texture_checks
   allows apart = go (overlaps src dst t.format n) refl
     where
-      go : (o : Bool) → overlaps src dst t.format n ≡ o → checked rule ≡ C.GoOn
+      go : (o : Bool) → overlaps src dst t.format n ≡ o → checked rule ≡ (Ok tt)
       go true e = absurd (apart (overlap_of e))
-      go false e = none-refuses Checked C.Refused C.GoOn rule (test_off _ _ e, tt)
+      go false e = none-refuses Unit tt rule (test_off _ _ e, tt)
 
   allowed : AllowsWithin t src dst size → Overlap → ⊥
   unfolding same_texture_checks

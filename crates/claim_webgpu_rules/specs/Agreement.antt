@@ -1,24 +1,17 @@
 -- How the planner's tables and rules agree with the standard's. What stands on the planner's side of a claim is what the claim judges;
 -- the rest is in the standard's words. Where a rule and the standard's part, the claim says exactly where; docs/DIFFERENCES.md has it.
-use Rattle.std.specs.Prelude.{◌≡◌, Bool, true, false, cond, List, [], ◌∷◌, ◌⊎◌, ◌↔◌, ℕ, ◌+◌, ◌*◌, ◌/◌, ◌%◌, ◌^◌, ◌<◌, eqb}
+use Rattle.std.specs.Prelude.{◌≡◌, Bool, true, false, cond, List, [], ◌∷◌, ◌⊎◌, ◌↔◌, ℕ, ◌+◌, ◌*◌, ◌/◌, ◌%◌, ◌^◌, ◌<◌, eqb, Option, Some, None, Result, Ok}
 use Rattle.measures.specs.declared.Extent3d.{Extent3d}
-use Rattle.measures.specs.declared.OptionU32.{OptionU32}
-use Rattle.measures.specs.declared.OptionU32.TheVariants as O
 use Rattle.mip_levels.specs.declared.TextureDimension.{TextureDimension}
 use Rattle.mip_levels.specs.declared.TextureDimension.TheVariants.{D1, D2, D3}
 use Rattle.formats.specs.declared.TextureAspect.{TextureAspect}
 use Rattle.formats.specs.declared.TextureAspect.TheVariants.{All}
 use Rattle.refusals.specs.declared.CopySide.{CopySide}
-use Rattle.refusals.specs.declared.Checked.{Checked}
-use Rattle.refusals.specs.declared.Checked.TheVariants as C
 use Rattle.records.specs.declared.Texture.{Texture}
 use Rattle.records.specs.declared.TexelCopyTextureInfo.{TexelCopyTextureInfo}
 use Rattle.records.specs.declared.TexelCopyBufferLayout.{TexelCopyBufferLayout}
 use Rattle.rule_copy_range.specs.declared.CopyExtent.{CopyExtent}
-use Rattle.rule_copy_range.specs.declared.RangeChecked.{RangeChecked}
-use Rattle.rule_copy_range.specs.declared.RangeChecked.TheVariants as R
 use Rattle.rule_linear_data.specs.declared.LinearData.{LinearData}
-use Rattle.rule_linear_data.specs.declared.LinearChecked.TheVariants as N
 use Rattle.claim_webgpu_rules.specs.Formats.{Aspect, Color, Depth, Stencil, Part, none, Known, format_of, is_depth_or_stencil, named, dimension_of, copy_compatible}
 use Rattle.claim_webgpu_rules.specs.WebGpu as W
 -- what is judged
@@ -32,6 +25,7 @@ use Rattle.rule_copy_range.specs.Range.{range_checked}
 use Rattle.rule_linear_data.specs.Linear.{linear_checked}
 use Rattle.rule_formats.specs.Rules.{src_format_checks, dst_format_checks, layout_checks}
 use Rattle.rule_selectors.specs.Selector.{same_texture_checks}
+use Rattle.refusals.specs.declared.TransferError.{TransferError}
 
 -- ---- the table of formats
 
@@ -46,8 +40,8 @@ bits [] = 0
 bits (p ∷ ps) = bit p.aspect + bits ps
 
 -- the bytes of a block of one aspect, where it can be copied
-abbrev pub footprint : List Part → OptionU32
-footprint ps = cond (eqb (W.bytes_of_one ps) none) O.Absent (O.Given (W.bytes_of_one ps))
+abbrev pub footprint : List Part → Option ℕ
+footprint ps = cond (eqb (W.bytes_of_one ps) none) None (Some (W.bytes_of_one ps))
 
 pub record Row (format : ℕ) : Type 0 where
   pub width : block_width_of format ≡ (format_of format).block_width_of
@@ -75,8 +69,8 @@ LevelCounts = (d : TextureDimension) (e : Extent3d) → 0 < W.mip_side d e → W
 
 -- ---- the range rule
 
-abbrev pub GoesOn : RangeChecked → Type 0
-GoesOn r = (extent : CopyExtent) × (layers : ℕ) × (r ≡ R.GoOn extent layers)
+abbrev pub GoesOn : Result (CopyExtent × ℕ) TransferError → Type 0
+GoesOn r = (extent : CopyExtent) × (layers : ℕ) × (r ≡ Ok (extent, layers))
 
 abbrev pub Ranges : Type 0
 Ranges =
@@ -100,9 +94,9 @@ pub record InStandard (format : ℕ) (aspect : TextureAspect) : Type 0 where
   pub known : Known format
   pub color : is_depth_or_stencil format ≡ false → aspect ≡ All
 
-abbrev pub Fits32 : OptionU32 → Type 0
-Fits32 (O.Given n) = n < 2 ^ 32
-Fits32 O.Absent = Unit {0}
+abbrev pub Fits32 : Option ℕ → Type 0
+Fits32 (Some n) = n < 2 ^ 32
+Fits32 None = Unit {0}
 
 module _ (layout : TexelCopyBufferLayout) (format : ℕ) (aspect : TextureAspect) (size : Extent3d) (bufferSize : ℕ) where
   abbrev pub wide : ℕ
@@ -129,8 +123,8 @@ module _ (layout : TexelCopyBufferLayout) (format : ℕ) (aspect : TextureAspect
 
   -- the rule goes on exactly where the standard's holds, and gives the standard's required bytes
   pub record LinearAgreement (side : CopySide) : Type 0 where
-    pub holds : (m : LinearData) → linear_checked layout format aspect bufferSize side size ≡ N.GoOn m → Standard × (m.bytes_in_copy ≡ required_bytes)
-    pub goes_on : Standard → (m : LinearData) × (linear_checked layout format aspect bufferSize side size ≡ N.GoOn m)
+    pub holds : (m : LinearData) → linear_checked layout format aspect bufferSize side size ≡ Ok m → Standard × (m.bytes_in_copy ≡ required_bytes)
+    pub goes_on : Standard → (m : LinearData) × (linear_checked layout format aspect bufferSize side size ≡ Ok m)
 
 abbrev pub LinearRules : Type 0
 LinearRules =
@@ -140,14 +134,14 @@ LinearRules =
 -- ---- texture buffer copies
 
 -- the format's rule: `reads` where the texture is the source
-abbrev pub format_rule : Bool → ℕ → TextureAspect → Checked
+abbrev pub format_rule : Bool → ℕ → TextureAspect → Result Unit TransferError
 format_rule true format aspect = checked (src_format_checks format aspect)
 format_rule false format aspect = checked (dst_format_checks format aspect)
 
 abbrev pub BufferCopies : Type 0
 BufferCopies =
     (reads aligned : Bool) (t : Texture) (aspect : TextureAspect) (layout : TexelCopyBufferLayout) → InStandard t.format aspect
-    → ((format_rule reads t.format aspect ≡ C.GoOn) × (checked (layout_checks aspect (bits (named (format_of t.format) aspect)) t layout aligned) ≡ C.GoOn))
+    → ((format_rule reads t.format aspect ≡ (Ok tt)) × (checked (layout_checks aspect (bits (named (format_of t.format) aspect)) t layout aligned) ≡ (Ok tt)))
     ↔ W.TextureBufferCopy reads aligned t aspect layout
 
 -- ---- copies within one texture
@@ -167,7 +161,7 @@ pub record MovesWithin (t : Texture) (src dst : TexelCopyTextureInfo) : Type 0 w
 
 module _ (t : Texture) (src dst : TexelCopyTextureInfo) (size : Extent3d) where
   abbrev pub AllowsWithin : Type 0
-  AllowsWithin = checked (same_texture_checks src dst t.format (layers_of (dimension_of t.dimension) size.depth_or_array_layers)) ≡ C.GoOn
+  AllowsWithin = checked (same_texture_checks src dst t.format (layers_of (dimension_of t.dimension) size.depth_or_array_layers)) ≡ (Ok tt)
 
 -- the rule goes on exactly where the standard's sets are disjoint, and there
 abbrev pub SameTexture : Type 0

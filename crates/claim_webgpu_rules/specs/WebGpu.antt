@@ -1,12 +1,8 @@
 -- The W3C WebGPU specification's own rules on copies, as they were restated from it, apart from the planner's definitions. Section
 -- titles are the specification's. Its numbers are unbounded: nothing wraps. That textures and buffers are valid is left to the records'
 -- bounds.
-use Rattle.std.specs.Prelude.{◌≡◌, Bool, true, false, cond, List, [], ◌∷◌, ◌⊎◌, ℕ, ◌+◌, ◌-◌, ◌*◌, ◌/◌, ◌%◌, ◌^◌, ◌≤◌, ◌<◌, max, eqb}
+use Rattle.std.specs.Prelude.{◌≡◌, Bool, true, false, cond, List, [], ◌∷◌, ◌⊎◌, ℕ, ◌+◌, ◌-◌, ◌*◌, ◌/◌, ◌%◌, ◌^◌, ◌≤◌, ◌<◌, max, eqb, Option, Some, None}
 use Rattle.measures.specs.declared.Extent3d.{Extent3d}
-use Rattle.measures.specs.declared.OptionU32.{OptionU32}
-use Rattle.measures.specs.declared.OptionU32.TheVariants as O
-use Rattle.measures.specs.declared.OptionU64.{OptionU64}
-use Rattle.measures.specs.declared.OptionU64.TheVariants as L
 use Rattle.mip_levels.specs.declared.TextureDimension.{TextureDimension}
 use Rattle.mip_levels.specs.declared.TextureDimension.TheVariants.{D1, D2, D3}
 use Rattle.formats.specs.declared.TextureAspect.{TextureAspect}
@@ -100,18 +96,18 @@ pub record TexelCopyTexture (reading : Reading) (t : Texture) (view : TexelCopyT
 -- ---- "validating linear texture data"
 
 -- an absent value counts as 0
-abbrev pub or_zero : OptionU32 → ℕ
-or_zero (O.Given n) = n
-or_zero O.Absent = 0
+abbrev pub or_zero : Option ℕ → ℕ
+or_zero (Some n) = n
+or_zero None = 0
 
-abbrev pub IsGiven : OptionU32 → Type 0
-IsGiven (O.Given n) = Unit {0}
-IsGiven O.Absent = ⊥
+abbrev pub IsGiven : Option ℕ → Type 0
+IsGiven (Some n) = Unit {0}
+IsGiven None = ⊥
 
 -- where given, at least n
-abbrev pub AtLeast : OptionU32 → ℕ → Type 0
-AtLeast (O.Given m) n = n ≤ m
-AtLeast O.Absent n = Unit {0}
+abbrev pub AtLeast : Option ℕ → ℕ → Type 0
+AtLeast (Some m) n = n ≤ m
+AtLeast None n = Unit {0}
 
 -- of a copy that is this many blocks wide and high, with the block's bytes
 module _ (layout : TexelCopyBufferLayout) (widthInBlocks heightInBlocks block_bytes depth : ℕ) where
@@ -157,7 +153,7 @@ block_bytes format asked = bytes_of_one (taken format asked)
 pub record AlignedLayout (format : ℕ) (aspect : TextureAspect) (layout : TexelCopyBufferLayout) : Type 0 where
   pub depth_stencil : is_depth_or_stencil format ≡ true → layout.offset % 4 ≡ 0
   pub other : is_depth_or_stencil format ≡ false → layout.offset % block_bytes format aspect ≡ 0
-  pub row : (n : ℕ) → layout.bytes_per_row ≡ O.Given n → n % 256 ≡ 0
+  pub row : (n : ℕ) → layout.bytes_per_row ≡ Some n → n % 256 ≡ 0
 
 pub record TextureBufferCopy (reads aligned : Bool) (t : Texture) (aspect : TextureAspect) (layout : TexelCopyBufferLayout) : Type 0 where
   pub one_sample : t.sample_count ≡ 1
@@ -191,9 +187,9 @@ WriteTexture reading dataLength layout t view copySize = CopyTexels reading fals
 -- ---- "copyBufferToBuffer()"
 
 -- an absent size is what is left of the source
-abbrev pub copy_size_of : Buffer → ℕ → OptionU64 → ℕ
-copy_size_of src offset (L.Given n) = n
-copy_size_of src offset L.Absent = src.size - offset
+abbrev pub copy_size_of : Buffer → ℕ → Option ℕ → ℕ
+copy_size_of src offset (Some n) = n
+copy_size_of src offset None = src.size - offset
 
 pub record CopyBufferToBuffer (same : Bool) (src dst : Buffer) (srcOffset dstOffset size : ℕ) : Type 0 where
   pub different : same ≡ false

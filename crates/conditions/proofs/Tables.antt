@@ -22,15 +22,6 @@ at_each {A} test rows past all = from rows (all_true (map test rows) all)
     from (r ∷ rows) t last zero = t.0
     from (r ∷ rows) t last (suc n) = from rows t.1 last n
 
--- what the last arm of a `match` knows of a number: it is none of 0 up to k
-abbrev pub Misses : ℕ → ℕ → Type 0
-Misses n zero = Unit {0}
-Misses n (suc k) = Misses n k × (n ≡ k → ⊥)
-
-pub past_arms : (n k : ℕ) → Misses n k → k ≤ n
-past_arms n zero m = omega arith
-past_arms n (suc k) m = let below = past_arms n k m.0 in let other = m.1 in omega arith
-
 -- a test that is computed of every number below k
 abbrev pub every_below : (ℕ → Bool) → ℕ → Bool
 every_below test zero = true

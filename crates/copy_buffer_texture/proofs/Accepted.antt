@@ -1,10 +1,10 @@
 -- A copy is planned exactly where its laws hold.
 -- Assumes nothing.
+use Rattle.std.specs.Prelude.{Result, Ok}
 use mathlib.Core.Path.{◌≡◌, refl, sym, ap, ◌∙◌}
 use mathlib.Core.Bool.{true, false}
 use mathlib.Core.List.{[], flatten}
 use Prim.Native.Nat.{ℕ}
-use native.Mathlib.Omega.{arith}
 use lib.Dec.{eqb}
 use borrow.Author.Tests.{not-false, not-true, lt-leb}
 use Rattle.conditions.proofs.Rules.{not_yes, not_no}
@@ -24,17 +24,9 @@ use Rattle.rule_selectors.specs.Selector.{selector_checks}
 use Rattle.plan_buffer_texture.specs.declared.BufferTexturePlan.{BufferTexturePlan}
 use Rattle.copy_buffer_texture.specs.declared.UploadSource.{UploadSource}
 use Rattle.copy_buffer_texture.specs.declared.UploadSource.TheVariants as S
-use Rattle.copy_buffer_texture.specs.declared.BufferTexturePlanned.{BufferTexturePlanned}
-use Rattle.copy_buffer_texture.specs.declared.BufferTexturePlanned.TheVariants as P
 use Rattle.copy_buffer_texture.specs.Copy.{Direction, Upload, Download, Copy}
 use Rattle.copy_buffer_texture.specs.Plan.{aspects, dense, source_checks, source_size, upload_checks, download_checks, checks_of, plan_for, planned, buffer_to_texture, memory_to_texture, texture_to_buffer}
 use Rattle.copy_buffer_texture.specs.Laws.{source_in_bounds, Accepted, CopyLaw, EveryCopyLaw}
-
-no_plan_lem : (p : BufferTexturePlan) (e : TransferError) → P.Refused e ≡ P.Plan p → ⊥
-no_plan_lem p e h = let z : ◌≡◌ {A = ℕ} 0 1 = cc in omega arith
-
-same_plan : {p q : BufferTexturePlan} → P.Plan p ≡ P.Plan q → p ≡ q
-same_plan e = cc
 
 -- ---- what is chosen
 chosen_of : (c : Copy) → flatten (selector_checks c.view c.texture) ≡ [] → eqb (aspects c) 0 ≡ false
@@ -59,8 +51,8 @@ source_passes (S.Memory length) h = refl
 -- ---- each way
 
 module _ (c : Copy) where
-  abbrev plan : BufferTexturePlanned
-  plan = P.Plan (plan_for c)
+  abbrev plan : Result BufferTexturePlan TransferError
+  plan = Ok (plan_for c)
 
   -- the checks that both ways make of the two sides
   range_passes : (side : CopySide) → Accepted c → flatten (range_checks c.view c.texture side c.size) ≡ []
@@ -69,10 +61,10 @@ module _ (c : Copy) where
   linear_passes : (side : CopySide) (n : ℕ) → LinearLaws c.layout n (dense c) → flatten (linear_checks c.layout n side (dense c)) ≡ []
   linear_passes side n l = (every_linear.rule c.layout n side (dense c)).passes l
 
-  upload_of : (source : UploadSource) → c.direction ≡ Upload source → (p : BufferTexturePlan) → decided (upload_checks source c) P.Refused plan ≡ P.Plan p → Accepted c × (plan_for c ≡ p)
+  upload_of : (source : UploadSource) → c.direction ≡ Upload source → (p : BufferTexturePlan) → decided (upload_checks source c) plan ≡ Ok p → Accepted c × (plan_for c ≡ p)
   unfolding upload_checks
   upload_of source way p h =
-      let f = none_found BufferTexturePlanned P.Refused plan (upload_checks source c) (P.Plan p) h (no_plan_lem p) in
+      let f = none_found BufferTexturePlan (plan_for c) (upload_checks source c) p h in
       let n = f.0 in (
         record {
           buffer_bounds = rw way (source_of source (n 0));
@@ -86,10 +78,10 @@ module _ (c : Copy) where
           linear = rw way ((every_linear.rule c.layout (source_size source) Source (dense c)).holds (n 8));
           fact = test_fails _ _ (n 9);
         },
-        same_plan f.1,
+        f.1,
       )
 
-  upload : (source : UploadSource) → c.direction ≡ Upload source → Accepted c → decided (upload_checks source c) P.Refused plan ≡ plan
+  upload : (source : UploadSource) → c.direction ≡ Upload source → Accepted c → decided (upload_checks source c) plan ≡ plan
   unfolding upload_checks
   upload source way a =
       let r = a.buffer_bounds in
@@ -98,7 +90,7 @@ module _ (c : Copy) where
       let f = a.format in
       let l = a.layout in
       let m = a.linear in
-      all_pass BufferTexturePlanned P.Refused plan (upload_checks source c) (
+      all_pass BufferTexturePlan (plan_for c) (upload_checks source c) (
         source_passes source (rw way at r),
         (
           texture_passes c.texture Destination a.texture_bounds,
@@ -130,10 +122,10 @@ module _ (c : Copy) where
         ),
       )
 
-  download_of : (b : Buffer) → c.direction ≡ Download b → (p : BufferTexturePlan) → decided (download_checks b c) P.Refused plan ≡ P.Plan p → Accepted c × (plan_for c ≡ p)
+  download_of : (b : Buffer) → c.direction ≡ Download b → (p : BufferTexturePlan) → decided (download_checks b c) plan ≡ Ok p → Accepted c × (plan_for c ≡ p)
   unfolding download_checks
   download_of b way p h =
-      let f = none_found BufferTexturePlanned P.Refused plan (download_checks b c) (P.Plan p) h (no_plan_lem p) in
+      let f = none_found BufferTexturePlan (plan_for c) (download_checks b c) p h in
       let n = f.0 in (
         record {
           buffer_bounds = rw way (buffer_of_lem b Destination (n 1));
@@ -147,10 +139,10 @@ module _ (c : Copy) where
           linear = rw way ((every_linear.rule c.layout b.size Destination (dense c)).holds (n 8));
           fact = test_fails _ _ (n 9);
         },
-        same_plan f.1,
+        f.1,
       )
 
-  download : (b : Buffer) → c.direction ≡ Download b → Accepted c → decided (download_checks b c) P.Refused plan ≡ plan
+  download : (b : Buffer) → c.direction ≡ Download b → Accepted c → decided (download_checks b c) plan ≡ plan
   unfolding download_checks
   download buffer way a =
       let r = a.buffer_bounds in
@@ -160,7 +152,7 @@ module _ (c : Copy) where
       let l = a.layout in
       let m = a.linear in
       let level = a.range.level in
-      all_pass BufferTexturePlanned P.Refused plan (download_checks buffer c) (
+      all_pass BufferTexturePlan (plan_for c) (download_checks buffer c) (
         texture_passes c.texture Source a.texture_bounds,
         (
           buffer_passes buffer Destination (rw way at r),
@@ -195,9 +187,9 @@ module _ (c : Copy) where
         ),
       )
 
-  planned_by_lem : (d : Direction) → c.direction ≡ d → planned c ≡ decided (checks_of d c) P.Refused plan
+  planned_by_lem : (d : Direction) → c.direction ≡ d → planned c ≡ decided (checks_of d c) plan
   unfolding planned
-  planned_by_lem d way = ap (λ (e : Direction). decided (checks_of e c) P.Refused plan) way
+  planned_by_lem d way = ap (λ (e : Direction). decided (checks_of e c) plan) way
 
   either_way : (d : Direction) → c.direction ≡ d → CopyLaw c
   either_way (Upload source) way =

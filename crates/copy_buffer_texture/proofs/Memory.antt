@@ -1,19 +1,15 @@
 -- A copy from memory is never refused for what only a buffer has.
 -- Assumes nothing.
-use mathlib.Core.Path.{◌≡◌, refl, sym, ap, ◌∙◌}
+use Rattle.std.specs.Prelude.{Ok, Err}
+use mathlib.Core.Path.{◌≡◌, refl, sym}
 use mathlib.Core.Bool.{Bool, true, false}
 use mathlib.Core.List.{List, [], ◌∷◌, flatten}
 use Prim.Native.Nat.{ℕ}
-use native.Mathlib.Omega.{arith}
-use Rattle.measures.specs.declared.Extent3d.{Extent3d}
 use Rattle.refusals.specs.declared.CopySide.TheVariants.{Source, Destination}
 use Rattle.refusals.specs.declared.TransferError.{TransferError}
 use Rattle.refusals.specs.Numbers.{numbers_of}
+use Rattle.refusals.proofs.Order.{no_refusal, same_refusal}
 use Rattle.refusals.specs.Order.{Checks, refuse_if, first, decided}
-use Rattle.records.specs.declared.Device.{Device}
-use Rattle.records.specs.declared.Texture.{Texture}
-use Rattle.records.specs.declared.TexelCopyTextureInfo.{TexelCopyTextureInfo}
-use Rattle.records.specs.declared.TexelCopyBufferLayout.{TexelCopyBufferLayout}
 use Rattle.records.specs.Bounds.{texture_checks}
 use Rattle.rule_copy_range.specs.Range.{partial_transfer, texture_overrun, dimension_checks, side_checks, block_checks, range_checks}
 use Rattle.rule_linear_data.specs.declared.Dense.{Dense}
@@ -22,8 +18,6 @@ use Rattle.rule_formats.specs.Rules.{dst_format_checks, layout_checks}
 use Rattle.rule_selectors.specs.Selector.{selector_checks}
 use Rattle.plan_buffer_texture.specs.declared.BufferTexturePlan.{BufferTexturePlan}
 use Rattle.copy_buffer_texture.specs.declared.UploadSource.TheVariants as S
-use Rattle.copy_buffer_texture.specs.declared.BufferTexturePlanned.{BufferTexturePlanned}
-use Rattle.copy_buffer_texture.specs.declared.BufferTexturePlanned.TheVariants as P
 use Rattle.copy_buffer_texture.specs.Copy.{Upload, Copy}
 use Rattle.copy_buffer_texture.specs.Plan.{aspects, dense, upload_checks, planned, memory_to_texture}
 use Rattle.copy_buffer_texture.specs.Laws.{may_refuse_memory, EveryMemoryRefusal}
@@ -62,15 +56,9 @@ all_flat [] h = tt
 all_flat (found ∷ checks) h = joined found checks h.0 (all_flat checks h.1)
 
 -- so the first that an order finds is one
-no_plan_lem : {p : BufferTexturePlan} {e : TransferError} → P.Plan p ≡ P.Refused e → ⊥
-no_plan_lem h = let z : ◌≡◌ {A = ℕ} 0 1 = cc in omega arith
-
-same_refusal : {a e : TransferError} → P.Refused a ≡ P.Refused e → a ≡ e
-same_refusal h = cc
-
-first_allowed : (checks : Checks) (p : BufferTexturePlan) (e : TransferError) → AllIn checks → decided checks P.Refused (P.Plan p) ≡ P.Refused e → Allowed e
+first_allowed : (checks : Checks) (p : BufferTexturePlan) (e : TransferError) → AllIn checks → decided checks (Ok p) ≡ Err e → Allowed e
 unfolding decided first
-first_allowed [] p e all h = absurd (no_plan_lem h)
+first_allowed [] p e all h = absurd (no_refusal (sym h))
 first_allowed ([] ∷ checks) p e all h = first_allowed checks p e all.1 h
 first_allowed ((a ∷ es) ∷ checks) p e all h = rw (← same_refusal h) all.0.0
 

@@ -1,10 +1,9 @@
 -- What callers use of an accepted copy, either way; what is promised of a refused one from memory.
-use Rattle.std.specs.Prelude.{◌≡◌, Bool, true, false, not, ◌||◌, ℕ, eqb}
+use Rattle.std.specs.Prelude.{◌≡◌, Bool, true, false, not, ◌||◌, ℕ, eqb, Ok, Err}
 use Rattle.flags.specs.BufferUsages as BufferUsages
 use Rattle.flags.specs.TextureUsages as TextureUsages
 use Rattle.flags.specs.Flags.{contains}
 use Rattle.formats.specs.declared.TextureAspect.{TextureAspect}
-use Rattle.refusals.specs.declared.Checked.TheVariants.{GoOn}
 use Rattle.refusals.specs.declared.TransferError.{TransferError}
 use Rattle.refusals.specs.Numbers.{numbers_of}
 use Rattle.refusals.specs.Order.{Checks, checked}
@@ -20,7 +19,6 @@ use Rattle.rule_formats.specs.Rules.{src_format_checks, dst_format_checks, layou
 use Rattle.plan_buffer_texture.specs.declared.BufferTexturePlan.{BufferTexturePlan}
 use Rattle.copy_buffer_texture.specs.declared.UploadSource.{UploadSource}
 use Rattle.copy_buffer_texture.specs.declared.UploadSource.TheVariants as S
-use Rattle.copy_buffer_texture.specs.declared.BufferTexturePlanned.TheVariants as P
 use Rattle.copy_buffer_texture.specs.Copy.{Direction, Upload, Download, Copy}
 use Rattle.copy_buffer_texture.specs.Plan.{aspects, dense, lacks_depth_fact, lacks_copy_src, is_aligned, source_size, plan_for, planned, memory_to_texture}
 
@@ -62,15 +60,15 @@ pub record Accepted (c : Copy) : Type 0 where
   pub chosen : eqb (aspects c) 0 ≡ false
   pub buffer_usage : buffer_usable c.direction ≡ true
   pub texture_usage : contains c.texture.usage.0 (texture_flag c.direction) ≡ true
-  pub format : checked (format_checks c.direction c.texture.format c.view.aspect) ≡ GoOn
-  pub layout : checked (layout_checks c.view.aspect (aspects c) c.texture c.layout (aligned c.direction)) ≡ GoOn
+  pub format : checked (format_checks c.direction c.texture.format c.view.aspect) ≡ (Ok tt)
+  pub layout : checked (layout_checks c.view.aspect (aspects c) c.texture c.layout (aligned c.direction)) ≡ (Ok tt)
   pub linear : LinearLaws c.layout (byte_size c.direction) (dense c)
   pub fact : lacks_depth_fact c.device c.texture.format ≡ false
 
 -- a copy is accepted exactly where these hold, and then this is its plan
 pub record CopyLaw (c : Copy) : Type 0 where
-  pub has_plan : Accepted c → planned c ≡ P.Plan (plan_for c)
-  pub is_accepted : (p : BufferTexturePlan) → planned c ≡ P.Plan p → Accepted c × (plan_for c ≡ p)
+  pub has_plan : Accepted c → planned c ≡ Ok (plan_for c)
+  pub is_accepted : (p : BufferTexturePlan) → planned c ≡ Ok p → Accepted c × (plan_for c ≡ p)
 
 abbrev pub EveryCopyLaw : Type 0
 EveryCopyLaw = (c : Copy) → CopyLaw c
@@ -84,4 +82,4 @@ may_refuse_memory number = not (eqb number 3 || (eqb number 5 || (eqb number 14 
 abbrev pub EveryMemoryRefusal : Type 0
 EveryMemoryRefusal =
     (device : Device) (length : ℕ) (layout : TexelCopyBufferLayout) (t : Texture) (view : TexelCopyTextureInfo) (size : Extent3d) (e : TransferError)
-    → memory_to_texture device length layout t view size ≡ P.Refused e → may_refuse_memory (numbers_of e).number ≡ true
+    → memory_to_texture device length layout t view size ≡ Err e → may_refuse_memory (numbers_of e).number ≡ true

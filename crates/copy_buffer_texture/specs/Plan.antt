@@ -1,5 +1,5 @@
 -- Copies between a buffer, or memory, and a texture: the checks in their order, and the plan.
-use Rattle.std.specs.Prelude.{ℕ, Bool, true, false, ◌&&◌, not, leb}
+use Rattle.std.specs.Prelude.{ℕ, Bool, true, false, ◌&&◌, not, leb, None, Result, Ok}
 use mathlib.Core.List.{[], ◌∷◌, flatten}
 use Rattle.measures.specs.declared.Extent3d.{Extent3d}
 use Rattle.flags.specs.BufferUsages as BufferUsages
@@ -25,15 +25,13 @@ use Rattle.rule_formats.specs.Rules.{src_format_checks, dst_format_checks, layou
 use Rattle.rule_selectors.specs.Selector.{base_of, selector_checks}
 use Rattle.rule_init_ranges.specs.declared.TextureInitRange.{TextureInitRange}
 use Rattle.rule_init_ranges.specs.declared.BufferInitRanges.{BufferInitRanges}
-use Rattle.rule_init_ranges.specs.declared.OptionRange.TheVariants.{Absent}
 use Rattle.rule_init_ranges.specs.Init.{src_texture_range, dst_texture_range, buffer_init}
 use Rattle.plan_buffer_texture.specs.declared.BufferTexturePlan.{BufferTexturePlan}
 use Rattle.plan_buffer_texture.specs.Plan.{plan_of}
 use Rattle.copy_buffer_texture.specs.declared.UploadSource.{UploadSource}
 use Rattle.copy_buffer_texture.specs.declared.UploadSource.TheVariants as S
-use Rattle.copy_buffer_texture.specs.declared.BufferTexturePlanned.{BufferTexturePlanned}
-use Rattle.copy_buffer_texture.specs.declared.BufferTexturePlanned.TheVariants as P
 use Rattle.copy_buffer_texture.specs.Copy.{Direction, Upload, Download, Copy}
+use Rattle.refusals.specs.declared.TransferError.{TransferError}
 
 -- the aspects that the copy chooses of the format
 abbrev pub aspects : Copy → ℕ
@@ -115,7 +113,7 @@ copy_texture_range (Download b) c = src_texture_range c.view c.texture c.size
 -- the ranges of what an upload reads, from an offset on; memory has none
 unfoldable pub source_ranges : UploadSource → ℕ → LinearData → BufferInitRanges
 source_ranges (S.Buffer b) offset info = buffer_init offset Source info.bytes_in_copy info.is_contiguous
-source_ranges (S.Memory length) offset info = record { head = Absent; whole = Absent; tail = Absent }
+source_ranges (S.Memory length) offset info = record { head = None; whole = None; tail = None }
 
 -- the buffer's ranges, as it is read or written
 abbrev pub buffer_ranges : Direction → ℕ → LinearData → BufferInitRanges
@@ -128,21 +126,21 @@ plan_for c =
     (base_of c.view c.texture (aspects c)) (linear_data c.layout (dense c)) (copy_texture_range c.direction c)
     (buffer_ranges c.direction c.layout.offset (linear_data c.layout (dense c)))
 
-unfoldable pub planned : Copy → BufferTexturePlanned
-planned c = decided (checks_of c.direction c) P.Refused (P.Plan (plan_for c))
+unfoldable pub planned : Copy → Result BufferTexturePlan TransferError
+planned c = decided (checks_of c.direction c) (Ok (plan_for c))
 
 -- ---- by what is copied
 
-abbrev pub uploaded : Device → UploadSource → TexelCopyBufferLayout → Texture → TexelCopyTextureInfo → Extent3d → BufferTexturePlanned
+abbrev pub uploaded : Device → UploadSource → TexelCopyBufferLayout → Texture → TexelCopyTextureInfo → Extent3d → Result BufferTexturePlan TransferError
 uploaded device source layout t view size =
     planned (record { direction = Upload source; device = device; layout = layout; texture = t; view = view; size = size })
 
-unfoldable pub buffer_to_texture : Device → Buffer → TexelCopyBufferLayout → Texture → TexelCopyTextureInfo → Extent3d → BufferTexturePlanned
+unfoldable pub buffer_to_texture : Device → Buffer → TexelCopyBufferLayout → Texture → TexelCopyTextureInfo → Extent3d → Result BufferTexturePlan TransferError
 buffer_to_texture device b layout t view size = uploaded device (S.Buffer b) layout t view size
 
-unfoldable pub memory_to_texture : Device → ℕ → TexelCopyBufferLayout → Texture → TexelCopyTextureInfo → Extent3d → BufferTexturePlanned
+unfoldable pub memory_to_texture : Device → ℕ → TexelCopyBufferLayout → Texture → TexelCopyTextureInfo → Extent3d → Result BufferTexturePlan TransferError
 memory_to_texture device length layout t view size = uploaded device (S.Memory length) layout t view size
 
-unfoldable pub texture_to_buffer : Device → Texture → TexelCopyTextureInfo → Buffer → TexelCopyBufferLayout → Extent3d → BufferTexturePlanned
+unfoldable pub texture_to_buffer : Device → Texture → TexelCopyTextureInfo → Buffer → TexelCopyBufferLayout → Extent3d → Result BufferTexturePlan TransferError
 texture_to_buffer device t view b layout size =
     planned (record { direction = Download b; device = device; layout = layout; texture = t; view = view; size = size })

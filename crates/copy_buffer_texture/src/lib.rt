@@ -9,25 +9,19 @@ ghost use Rattle.rule_linear_data.specs.Linear.{linear_checked};
 ghost use Rattle.rule_formats.specs.Rules.{layout_checks};
 ghost use Rattle.plan_buffer_texture.specs.Plan.{plan_of};
 ghost use Rattle.copy_buffer_texture.specs.Plan.{lacks_depth_fact, lacks_copy_src, is_aligned, source_size, source_ranges, buffer_to_texture, memory_to_texture, texture_to_buffer};
-ghost use Rattle.copy_buffer_texture.specs.Stages.{EndFits, upload_placed, upload_allowed, upload_ranged, upload_recorded, download_placed, download_allowed, download_ranged};
+ghost use Rattle.copy_buffer_texture.specs.Stages.{EndFits, part_checked, upload_placed, upload_allowed, upload_ranged, upload_recorded, download_placed, download_allowed, download_ranged};
 ghost use Rattle.copy_buffer_texture.specs.Laws.{source_in_bounds, EveryCopyLaw, EveryMemoryRefusal};
 
 use flags::{BufferUsages, FormatAspects, TextureUsages};
-use formats::TextureAspect;
 use measures::Extent3d;
-use plan_buffer_texture::BufferTexturePlan;
-use records::{Buffer, Device, TexelCopyBufferLayout, TexelCopyTextureInfo, Texture};
-use refusals::{Checked, CopySide, DownlevelFlags, TransferError};
-use rule_copy_range::{CopyExtent, RangeChecked};
-use rule_init_ranges::{BufferInitRanges, OptionRange};
-use rule_linear_data::{LinearChecked, LinearData};
-use rule_selectors::{SelectorChecked, TextureCopyBase};
-
-#[derive(Clone, Copy)]
-pub enum BufferTexturePlanned {
-    Plan(BufferTexturePlan),
-    Refused(TransferError),
-}
+use plan_buffer_texture::{BufferTexturePlan, TexturePart};
+use records::{
+    Buffer, CheckedBuffer, CheckedTexture, Device, TexelCopyBufferLayout, TexelCopyTextureInfo,
+    Texture,
+};
+use refusals::{CopySide, DownlevelFlags, TransferError};
+use rule_init_ranges::BufferInitRanges;
+use rule_linear_data::LinearData;
 
 #[tactic(auto, unfolding(crate::specs::Plan::lacks_depth_fact))]
 fn lacks_depth_fact(device: Device, format: u32) -> bool
@@ -50,10 +44,7 @@ fn lacks_copy_src(source: UploadSource) -> bool
     ensures { result ≡ lacks_copy_src source }
 {
     match source {
-        UploadSource::Buffer(b) => {
-            let usage = b.usage;
-            !usage.contains(BufferUsages::COPY_SRC)
-        },
+        UploadSource::Buffer(b) => { !b.usage.contains(BufferUsages::COPY_SRC) },
         UploadSource::Memory(_) => false,
     }
 }
@@ -76,39 +67,6 @@ fn source_size(source: UploadSource) -> u64
     }
 }
 
-fn check_source_layout(
-    source: UploadSource,
-    aspect: TextureAspect,
-    aspects: FormatAspects,
-    t: Texture,
-    layout: TexelCopyBufferLayout,
-) -> Checked
-    ensures { result ≡ checked (layout_checks aspect aspects.0 t layout (is_aligned source)) }
-{
-    let aligned = is_aligned(source);
-    rule_formats::validate_texture_buffer_copy(aspect, aspects, t, layout, aligned)
-}
-
-fn check_source_data(
-    source: UploadSource,
-    layout: TexelCopyBufferLayout,
-    format: u32,
-    aspect: TextureAspect,
-    size: Extent3d,
-) -> LinearChecked
-    ensures { result ≡ linear_checked layout format aspect (source_size source) CopySide.Source size }
-{
-    let length = source_size(source);
-    rule_linear_data::validate_linear_texture_data(
-        layout,
-        format,
-        aspect,
-        length,
-        CopySide::Source,
-        size,
-    )
-}
-
 fn source_ranges(source: UploadSource, offset: u64, info: LinearData) -> BufferInitRanges
     requires { EndFits source (offset + info.bytes_in_copy) }
     ensures { result ≡ source_ranges source offset info }
@@ -121,137 +79,139 @@ fn source_ranges(source: UploadSource, offset: u64, info: LinearData) -> BufferI
             info.is_contiguous,
         ),
         UploadSource::Memory(_) => BufferInitRanges {
-            head: OptionRange::Absent,
-            whole: OptionRange::Absent,
-            tail: OptionRange::Absent,
+            head: None,
+            whole: None,
+            tail: None,
         },
     }
 }
 
-fn upload_plan(
-    source: UploadSource,
-    layout: TexelCopyBufferLayout,
-    t: Texture,
+// The part of the texture that is copied, where its range and its aspect are as they have to be.
+fn texture_part(
     view: TexelCopyTextureInfo,
+    t: CheckedTexture,
+    side: CopySide,
     size: Extent3d,
-    extent: CopyExtent,
-    layers: u32,
-    base: TextureCopyBase,
-    info: LinearData,
-) -> BufferTexturePlan
-    requires { EndFits source (layout.offset + info.bytes_in_copy) }
-    ensures { result ≡ plan_of layout size extent layers base info (dst_texture_range view t size) (source_ranges source layout.offset info) }
+) -> Result<TexturePart, TransferError>
+    ensures { result ≡ part_checked view t.texture side size }
 {
-    let texture = rule_init_ranges::dst_texture_range(view, t, size);
-    let buffer = source_ranges(source, layout.offset, info);
-    plan_buffer_texture::plan_of(layout, size, extent, layers, base, info, texture, buffer)
+    let (extent, layers) = rule_copy_range::validate_texture_copy_range(view, t, side, size)?;
+    let (_, base) = rule_selectors::extract_texture_selector(view, size, t.texture)?;
+    Ok(TexturePart {
+        extent,
+        layers,
+        base,
+    })
 }
 
-fn place_upload(
+// A copy into a texture, of records that were checked.
+#[derive(Clone, Copy)]
+struct Upload {
     device: Device,
     source: UploadSource,
     layout: TexelCopyBufferLayout,
-    t: Texture,
+    t: CheckedTexture,
     view: TexelCopyTextureInfo,
     size: Extent3d,
-    extent: CopyExtent,
-    layers: u32,
-    base: TextureCopyBase,
-) -> BufferTexturePlanned
-    requires { source_in_bounds source ≡ true }
-    ensures { result ≡ upload_placed device source layout t view size extent layers base }
-{
-    let aspect = view.aspect;
-    let linear = check_source_data(source, layout, t.format, aspect, size);
-    let LinearChecked::GoOn(info) = linear else {
-        return BufferTexturePlanned::Refused(rule_answers::linear_why(linear));
-    };
-    if lacks_depth_fact(device, t.format) {
-        return BufferTexturePlanned::Refused(TransferError::MissingDownlevelFlags(
-            DownlevelFlags::DepthTextureAndBufferCopies,
-        ));
+    ghost source_checked: { source_in_bounds source ≡ true },
+}
+
+impl Upload {
+    fn check_layout(&self, aspects: FormatAspects) -> Result<(), TransferError>
+        ensures { result ≡ checked (layout_checks self.now.view.aspect aspects.0 self.now.t.texture self.now.layout (is_aligned self.now.source)) }
+    {
+        rule_formats::validate_texture_buffer_copy(
+            self.view.aspect,
+            aspects,
+            self.t.texture,
+            self.layout,
+            is_aligned(self.source),
+        )
     }
-    BufferTexturePlanned::Plan(upload_plan(
-        source, layout, t, view, size, extent, layers, base, info,
-    ))
-}
 
-fn allow_upload(
-    device: Device,
-    source: UploadSource,
-    layout: TexelCopyBufferLayout,
-    t: Texture,
-    view: TexelCopyTextureInfo,
-    size: Extent3d,
-    extent: CopyExtent,
-    layers: u32,
-    base: TextureCopyBase,
-) -> BufferTexturePlanned
-    requires { source_in_bounds source ≡ true }
-    ensures { result ≡ upload_allowed device source layout t view size extent layers base }
-{
-    let texture_usage = t.usage;
-    let aspect = view.aspect;
-    let aspects = base.aspect;
-    if lacks_copy_src(source) {
-        return BufferTexturePlanned::Refused(TransferError::MissingBufferUsage {
-            side: CopySide::Source,
-        });
+    fn check_data(&self) -> Result<LinearData, TransferError>
+        ensures { result ≡ linear_checked self.now.layout self.now.t.texture.format self.now.view.aspect (source_size self.now.source) CopySide.Source self.now.size }
+    {
+        rule_linear_data::validate_linear_texture_data(
+            self.layout,
+            self.t.texture.format,
+            self.view.aspect,
+            source_size(self.source),
+            CopySide::Source,
+            self.size,
+        )
     }
-    if !texture_usage.contains(TextureUsages::COPY_DST) {
-        return BufferTexturePlanned::Refused(TransferError::MissingTextureUsage {
-            side: CopySide::Destination,
-        });
+
+    fn plan(&self, part: TexturePart, info: LinearData) -> BufferTexturePlan
+        requires { EndFits self.now.source (self.now.layout.offset + info.bytes_in_copy) }
+        ensures { result ≡ plan_of self.now.layout self.now.size part.extent part.layers part.base info (dst_texture_range self.now.view self.now.t.texture self.now.size) (source_ranges self.now.source self.now.layout.offset info) }
+    {
+        let texture = rule_init_ranges::dst_texture_range(self.view, self.t.texture, self.size);
+        let buffer = source_ranges(self.source, self.layout.offset, info);
+        plan_buffer_texture::plan_of(self.layout, self.size, part, info, texture, buffer)
     }
-    let format = rule_formats::validate_texture_copy_dst_format(t.format, aspect);
-    let Checked::GoOn = format else {
-        return BufferTexturePlanned::Refused(rule_answers::why(format));
-    };
-    let rules = check_source_layout(source, aspect, aspects, t, layout);
-    let Checked::GoOn = rules else {
-        return BufferTexturePlanned::Refused(rule_answers::why(rules));
-    };
-    place_upload(device, source, layout, t, view, size, extent, layers, base)
+
+    #[tactic(auto, using(refusals::proofs::Stages::copied), unfolding(crate::specs::Stages::upload_placed))]
+    fn placed(&self, part: TexturePart) -> Result<BufferTexturePlan, TransferError>
+        ensures { result ≡ upload_placed self.now.device self.now.source self.now.layout self.now.t.texture self.now.view self.now.size part }
+    {
+        let info = self.check_data()?;
+        if lacks_depth_fact(self.device, self.t.texture.format) {
+            return Err(TransferError::MissingDownlevelFlags(
+                DownlevelFlags::DepthTextureAndBufferCopies,
+            ));
+        }
+        Ok(self.plan(part, info))
+    }
+
+    #[tactic(auto, using(refusals::proofs::Stages::copied), unfolding(crate::specs::Stages::upload_allowed))]
+    fn allowed(&self, part: TexturePart) -> Result<BufferTexturePlan, TransferError>
+        ensures { result ≡ upload_allowed self.now.device self.now.source self.now.layout self.now.t.texture self.now.view self.now.size part }
+    {
+        if lacks_copy_src(self.source) {
+            return Err(TransferError::MissingBufferUsage {
+                side: CopySide::Source,
+            });
+        }
+        if !self.t.texture.usage.contains(TextureUsages::COPY_DST) {
+            return Err(TransferError::MissingTextureUsage {
+                side: CopySide::Destination,
+            });
+        }
+        rule_formats::validate_texture_copy_dst_format(self.t.texture.format, self.view.aspect)?;
+        self.check_layout(part.base.aspect)?;
+        self.placed(part)
+    }
+
+    fn ranged(&self) -> Result<BufferTexturePlan, TransferError>
+        ensures { result ≡ upload_ranged self.now.device self.now.source self.now.layout self.now.t.texture self.now.view self.now.size }
+    {
+        let part = texture_part(self.view, self.t, CopySide::Destination, self.size)?;
+        self.allowed(part)
+    }
 }
 
-fn range_upload(
+fn copy_source_to_texture(
     device: Device,
     source: UploadSource,
     layout: TexelCopyBufferLayout,
     t: Texture,
     view: TexelCopyTextureInfo,
     size: Extent3d,
-) -> BufferTexturePlanned
-    requires { (source_in_bounds source ≡ true) × (texture_in_bounds t ≡ true) }
-    ensures { result ≡ upload_ranged device source layout t view size }
-{
-    let ranged = rule_copy_range::validate_texture_copy_range(view, t, CopySide::Destination, size);
-    let RangeChecked::GoOn(extent, layers) = ranged else {
-        return BufferTexturePlanned::Refused(rule_answers::range_why(ranged));
-    };
-    let selected = rule_selectors::extract_texture_selector(view, size, t);
-    let SelectorChecked::GoOn(_, base) = selected else {
-        return BufferTexturePlanned::Refused(rule_answers::selector_why(selected));
-    };
-    allow_upload(device, source, layout, t, view, size, extent, layers, base)
-}
-
-fn record_upload(
-    device: Device,
-    source: UploadSource,
-    layout: TexelCopyBufferLayout,
-    t: Texture,
-    view: TexelCopyTextureInfo,
-    size: Extent3d,
-) -> BufferTexturePlanned
+) -> Result<BufferTexturePlan, TransferError>
     requires { source_in_bounds source ≡ true }
     ensures { result ≡ upload_recorded device source layout t view size }
 {
-    let texture = records::check_texture(t, CopySide::Destination);
-    let Checked::GoOn = texture else {
-        return BufferTexturePlanned::Refused(rule_answers::why(texture));
+    let t = records::check_texture(t, CopySide::Destination)?;
+    let upload = Upload {
+        device,
+        source,
+        layout,
+        t,
+        view,
+        size,
     };
-    range_upload(device, source, layout, t, view, size)
+    upload.ranged()
 }
 
 // The plan of a copy from a buffer into a texture, or its refusal.
@@ -262,14 +222,18 @@ pub fn copy_buffer_to_texture(
     t: Texture,
     view: TexelCopyTextureInfo,
     copy_size: Extent3d,
-) -> BufferTexturePlanned
+) -> Result<BufferTexturePlan, TransferError>
     ensures { result ≡ buffer_to_texture device b layout t view copy_size }
 {
-    let buffer = records::check_buffer(b, CopySide::Source);
-    let Checked::GoOn = buffer else {
-        return BufferTexturePlanned::Refused(rule_answers::why(buffer));
-    };
-    record_upload(device, UploadSource::Buffer(b), layout, t, view, copy_size)
+    let b = records::check_buffer(b, CopySide::Source)?;
+    copy_source_to_texture(
+        device,
+        UploadSource::Buffer(b.buffer),
+        layout,
+        t,
+        view,
+        copy_size,
+    )
 }
 
 // The plan of a copy from a block of memory of a length into a texture, or its refusal.
@@ -280,135 +244,98 @@ pub fn copy_memory_to_texture(
     t: Texture,
     view: TexelCopyTextureInfo,
     copy_size: Extent3d,
-) -> BufferTexturePlanned
+) -> Result<BufferTexturePlan, TransferError>
     ensures { result ≡ memory_to_texture device length layout t view copy_size }
 {
     let source = UploadSource::Memory(length);
-    record_upload(device, source, layout, t, view, copy_size)
+    copy_source_to_texture(device, source, layout, t, view, copy_size)
 }
 
-fn download_plan(
-    layout: TexelCopyBufferLayout,
-    t: Texture,
-    view: TexelCopyTextureInfo,
-    size: Extent3d,
-    extent: CopyExtent,
-    layers: u32,
-    base: TextureCopyBase,
-    info: LinearData,
-) -> BufferTexturePlan
-    requires { layout.offset + info.bytes_in_copy < 2 ^ 63 }
-    ensures { result ≡ plan_of layout size extent layers base info (src_texture_range view t size) (buffer_init layout.offset CopySide.Destination info.bytes_in_copy info.is_contiguous) }
-{
-    let texture = rule_init_ranges::src_texture_range(view, t, size);
-    let buffer = rule_init_ranges::handle_buffer_init(
-        layout.offset,
-        CopySide::Destination,
-        info.bytes_in_copy,
-        info.is_contiguous,
-    );
-    plan_buffer_texture::plan_of(layout, size, extent, layers, base, info, texture, buffer)
-}
-
-fn place_download(
+// A copy from a texture into a buffer, of records that were checked.
+#[derive(Clone, Copy)]
+struct Download {
     device: Device,
-    b: Buffer,
-    layout: TexelCopyBufferLayout,
-    t: Texture,
+    t: CheckedTexture,
     view: TexelCopyTextureInfo,
+    b: CheckedBuffer,
+    layout: TexelCopyBufferLayout,
     size: Extent3d,
-    extent: CopyExtent,
-    layers: u32,
-    base: TextureCopyBase,
-) -> BufferTexturePlanned
-    requires { buffer_in_bounds b ≡ true }
-    ensures { result ≡ download_placed device b layout t view size extent layers base }
-{
-    let aspect = view.aspect;
-    let buffer_usage = b.usage;
-    let linear = rule_linear_data::validate_linear_texture_data(
-        layout,
-        t.format,
-        aspect,
-        b.size,
-        CopySide::Destination,
-        size,
-    );
-    let LinearChecked::GoOn(info) = linear else {
-        return BufferTexturePlanned::Refused(rule_answers::linear_why(linear));
-    };
-    if lacks_depth_fact(device, t.format) {
-        return BufferTexturePlanned::Refused(TransferError::MissingDownlevelFlags(
-            DownlevelFlags::DepthTextureAndBufferCopies,
-        ));
-    }
-    if !buffer_usage.contains(BufferUsages::COPY_DST) {
-        return BufferTexturePlanned::Refused(TransferError::MissingBufferUsage {
-            side: CopySide::Destination,
-        });
-    }
-    BufferTexturePlanned::Plan(download_plan(layout, t, view, size, extent, layers, base, info))
 }
 
-fn allow_download(
-    device: Device,
-    b: Buffer,
-    layout: TexelCopyBufferLayout,
-    t: Texture,
-    view: TexelCopyTextureInfo,
-    size: Extent3d,
-    extent: CopyExtent,
-    layers: u32,
-    base: TextureCopyBase,
-) -> BufferTexturePlanned
-    requires { buffer_in_bounds b ≡ true }
-    ensures { result ≡ download_allowed device b layout t view size extent layers base }
-{
-    let texture_usage = t.usage;
-    let aspect = view.aspect;
-    let aspects = base.aspect;
-    if !texture_usage.contains(TextureUsages::COPY_SRC) {
-        return BufferTexturePlanned::Refused(TransferError::MissingTextureUsage {
-            side: CopySide::Source,
-        });
+impl Download {
+    fn check_data(&self) -> Result<LinearData, TransferError>
+        ensures { result ≡ linear_checked self.now.layout self.now.t.texture.format self.now.view.aspect self.now.b.buffer.size CopySide.Destination self.now.size }
+    {
+        rule_linear_data::validate_linear_texture_data(
+            self.layout,
+            self.t.texture.format,
+            self.view.aspect,
+            self.b.buffer.size,
+            CopySide::Destination,
+            self.size,
+        )
     }
-    if view.mip_level >= t.mip_level_count {
-        return BufferTexturePlanned::Refused(TransferError::InvalidMipLevel {
-            requested: view.mip_level,
-            count: t.mip_level_count,
-        });
-    }
-    let format = rule_formats::validate_texture_copy_src_format(t.format, aspect);
-    let Checked::GoOn = format else {
-        return BufferTexturePlanned::Refused(rule_answers::why(format));
-    };
-    let rules = rule_formats::validate_texture_buffer_copy(aspect, aspects, t, layout, true);
-    let Checked::GoOn = rules else {
-        return BufferTexturePlanned::Refused(rule_answers::why(rules));
-    };
-    place_download(device, b, layout, t, view, size, extent, layers, base)
-}
 
-fn range_download(
-    device: Device,
-    b: Buffer,
-    layout: TexelCopyBufferLayout,
-    t: Texture,
-    view: TexelCopyTextureInfo,
-    size: Extent3d,
-) -> BufferTexturePlanned
-    requires { (buffer_in_bounds b ≡ true) × (texture_in_bounds t ≡ true) }
-    ensures { result ≡ download_ranged device b layout t view size }
-{
-    let ranged = rule_copy_range::validate_texture_copy_range(view, t, CopySide::Source, size);
-    let RangeChecked::GoOn(extent, layers) = ranged else {
-        return BufferTexturePlanned::Refused(rule_answers::range_why(ranged));
-    };
-    let selected = rule_selectors::extract_texture_selector(view, size, t);
-    let SelectorChecked::GoOn(_, base) = selected else {
-        return BufferTexturePlanned::Refused(rule_answers::selector_why(selected));
-    };
-    allow_download(device, b, layout, t, view, size, extent, layers, base)
+    fn plan(&self, part: TexturePart, info: LinearData) -> BufferTexturePlan
+        requires { self.now.layout.offset + info.bytes_in_copy < 2 ^ 63 }
+        ensures { result ≡ plan_of self.now.layout self.now.size part.extent part.layers part.base info (src_texture_range self.now.view self.now.t.texture self.now.size) (buffer_init self.now.layout.offset CopySide.Destination info.bytes_in_copy info.is_contiguous) }
+    {
+        let texture = rule_init_ranges::src_texture_range(self.view, self.t.texture, self.size);
+        let buffer = rule_init_ranges::handle_buffer_init(
+            self.layout.offset,
+            CopySide::Destination,
+            info.bytes_in_copy,
+            info.is_contiguous,
+        );
+        plan_buffer_texture::plan_of(self.layout, self.size, part, info, texture, buffer)
+    }
+
+    #[tactic(auto, using(refusals::proofs::Stages::copied), unfolding(crate::specs::Stages::download_placed))]
+    fn placed(&self, part: TexturePart) -> Result<BufferTexturePlan, TransferError>
+        ensures { result ≡ download_placed self.now.device self.now.b.buffer self.now.layout self.now.t.texture self.now.view self.now.size part }
+    {
+        let info = self.check_data()?;
+        if lacks_depth_fact(self.device, self.t.texture.format) {
+            return Err(TransferError::MissingDownlevelFlags(
+                DownlevelFlags::DepthTextureAndBufferCopies,
+            ));
+        }
+        if !self.b.buffer.usage.contains(BufferUsages::COPY_DST) {
+            return Err(TransferError::MissingBufferUsage {
+                side: CopySide::Destination,
+            });
+        }
+        Ok(self.plan(part, info))
+    }
+
+    #[tactic(auto, using(refusals::proofs::Stages::copied), unfolding(crate::specs::Stages::download_allowed))]
+    fn allowed(&self, part: TexturePart) -> Result<BufferTexturePlan, TransferError>
+        ensures { result ≡ download_allowed self.now.device self.now.b.buffer self.now.layout self.now.t.texture self.now.view self.now.size part }
+    {
+        let t = self.t.texture;
+        if !t.usage.contains(TextureUsages::COPY_SRC) {
+            return Err(TransferError::MissingTextureUsage {
+                side: CopySide::Source,
+            });
+        }
+        if self.view.mip_level >= t.mip_level_count {
+            return Err(TransferError::InvalidMipLevel {
+                requested: self.view.mip_level,
+                count: t.mip_level_count,
+            });
+        }
+        let aspect = self.view.aspect;
+        rule_formats::validate_texture_copy_src_format(t.format, aspect)?;
+        rule_formats::validate_texture_buffer_copy(aspect, part.base.aspect, t, self.layout, true)?;
+        self.placed(part)
+    }
+
+    fn ranged(&self) -> Result<BufferTexturePlan, TransferError>
+        ensures { result ≡ download_ranged self.now.device self.now.b.buffer self.now.layout self.now.t.texture self.now.view self.now.size }
+    {
+        let part = texture_part(self.view, self.t, CopySide::Source, self.size)?;
+        self.allowed(part)
+    }
 }
 
 // The plan of a copy from a texture into a buffer, or its refusal.
@@ -419,18 +346,20 @@ pub fn copy_texture_to_buffer(
     b: Buffer,
     layout: TexelCopyBufferLayout,
     copy_size: Extent3d,
-) -> BufferTexturePlanned
+) -> Result<BufferTexturePlan, TransferError>
     ensures { result ≡ texture_to_buffer device t view b layout copy_size }
 {
-    let texture = records::check_texture(t, CopySide::Source);
-    let Checked::GoOn = texture else {
-        return BufferTexturePlanned::Refused(rule_answers::why(texture));
+    let t = records::check_texture(t, CopySide::Source)?;
+    let b = records::check_buffer(b, CopySide::Destination)?;
+    let download = Download {
+        device,
+        t,
+        view,
+        b,
+        layout,
+        size: copy_size,
     };
-    let buffer = records::check_buffer(b, CopySide::Destination);
-    let Checked::GoOn = buffer else {
-        return BufferTexturePlanned::Refused(rule_answers::why(buffer));
-    };
-    range_download(device, b, layout, t, view, copy_size)
+    download.ranged()
 }
 
 // Asks the check for the law of an accepted copy; nothing runs here.

@@ -1,5 +1,6 @@
 -- A copy between buffers is planned exactly where its laws hold.
 -- Assumes nothing.
+use Rattle.std.specs.Prelude.{Ok}
 use mathlib.Core.Path.{◌≡◌}
 use mathlib.Core.Bool.{false, not}
 use Prim.Native.Nat.{ℕ, ◌+◌, ◌-◌, ◌%◌, ◌≤◌}
@@ -9,23 +10,14 @@ use borrow.Author.Tests.{ltb-false, le-ltb, not-false, eqb-true, eq-eqb}
 use Rattle.conditions.proofs.Rules.{not_no}
 use Rattle.measures.specs.Measure.{multiple}
 use Rattle.refusals.specs.declared.CopySide.TheVariants.{Source, Destination}
-use Rattle.refusals.specs.declared.TransferError.{TransferError}
 use Rattle.refusals.specs.Order.{decided}
 use Rattle.refusals.proofs.Order.{none_found, all_pass, test_fails, test_off}
 use Rattle.records.proofs.Checked.{buffer_of_lem, buffer_passes}
 use Rattle.plan_buffers.specs.declared.BufferPlan.{BufferPlan}
 use Rattle.plan_buffers.specs.Plan.{plan_of}
-use Rattle.copy_buffers.specs.declared.BufferPlanned.{BufferPlanned}
-use Rattle.copy_buffers.specs.declared.BufferPlanned.TheVariants as P
 use Rattle.copy_buffers.specs.Copy.{Copy}
 use Rattle.copy_buffers.specs.Plan.{bytes, buffer_copy_checks, planned}
 use Rattle.copy_buffers.specs.Laws.{Accepted, EveryCopyLaw}
-
-no_plan_lem : (p : BufferPlan) (e : TransferError) → P.Refused e ≡ P.Plan p → ⊥
-no_plan_lem p e h = let z : ◌≡◌ {A = ℕ} 0 1 = cc in omega arith
-
-same_plan : {p q : BufferPlan} → P.Plan p ≡ P.Plan q → p ≡ q
-same_plan e = cc
 
 multiple_of : (n : ℕ) → not (multiple n 4) ≡ false → n % 4 ≡ 0
 unfolding multiple
@@ -48,10 +40,10 @@ module _ (c : Copy) where
   ends : (offset size : ℕ) → offset + bytes c ≤ size → ltb (size - offset) (bytes c) ≡ false
   ends offset size h = le-ltb (size - offset) (bytes c) (omega arith)
 
-  accepted : (p : BufferPlan) → decided (buffer_copy_checks c) P.Refused (P.Plan plan) ≡ P.Plan p → Accepted c × (plan ≡ p)
+  accepted : (p : BufferPlan) → decided (buffer_copy_checks c) (Ok plan) ≡ Ok p → Accepted c × (plan ≡ p)
   unfolding buffer_copy_checks
   accepted p h =
-      let f = none_found BufferPlanned P.Refused (P.Plan plan) (buffer_copy_checks c) (P.Plan p) h (no_plan_lem p) in
+      let f = none_found BufferPlan plan (buffer_copy_checks c) p h in
       let n = f.0 in (
         record {
           src_bounds = buffer_of_lem c.src Source (n 0);
@@ -66,13 +58,13 @@ module _ (c : Copy) where
           src_inside = inside c.src_offset c.src.size (test_fails _ _ (n 5)) (test_fails _ _ (n 10));
           dst_inside = inside c.dst_offset c.dst.size (test_fails _ _ (n 11)) (test_fails _ _ (n 12));
         },
-        same_plan f.1,
+        f.1,
       )
 
-  plans : Accepted c → decided (buffer_copy_checks c) P.Refused (P.Plan plan) ≡ P.Plan plan
+  plans : Accepted c → decided (buffer_copy_checks c) (Ok plan) ≡ Ok plan
   unfolding buffer_copy_checks
   plans a =
-      all_pass BufferPlanned P.Refused (P.Plan plan) (buffer_copy_checks c) (
+      all_pass BufferPlan plan (buffer_copy_checks c) (
         buffer_passes c.src Source a.src_bounds,
         (
           buffer_passes c.dst Destination a.dst_bounds,

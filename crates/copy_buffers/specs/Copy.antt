@@ -1,6 +1,5 @@
 -- A copy between buffers.
-use Rattle.std.specs.Prelude.{ℕ}
-use Rattle.measures.specs.declared.OptionU64.{OptionU64}
+use Rattle.std.specs.Prelude.{ℕ, Option}
 use Rattle.records.specs.declared.Buffer.{Buffer}
 use Rattle.records.specs.declared.Device.{Device}
 
@@ -13,4 +12,4 @@ pub record Copy : Type 0 where
   pub dst_index : ℕ
   pub dst : Buffer
   pub dst_offset : ℕ
-  pub size : OptionU64
+  pub size : Option ℕ

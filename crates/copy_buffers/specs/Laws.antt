@@ -1,11 +1,10 @@
 -- What callers use of an accepted copy between buffers.
-use Rattle.std.specs.Prelude.{◌≡◌, true, false, ◌+◌, ◌%◌, ◌≤◌, eqb}
+use Rattle.std.specs.Prelude.{◌≡◌, true, false, ◌+◌, ◌%◌, ◌≤◌, eqb, Ok}
 use Rattle.flags.specs.BufferUsages as BufferUsages
 use Rattle.flags.specs.Flags.{contains}
 use Rattle.records.specs.Bounds.{buffer_in_bounds}
 use Rattle.plan_buffers.specs.declared.BufferPlan.{BufferPlan}
 use Rattle.plan_buffers.specs.Plan.{plan_of}
-use Rattle.copy_buffers.specs.declared.BufferPlanned.TheVariants as P
 use Rattle.copy_buffers.specs.Copy.{Copy}
 use Rattle.copy_buffers.specs.Plan.{bytes, lacks_index_fact, planned}
 
@@ -24,8 +23,8 @@ pub record Accepted (c : Copy) : Type 0 where
 
 -- a copy is accepted exactly where these hold, and then this is its plan
 pub record CopyLaw (c : Copy) : Type 0 where
-  pub has_plan : Accepted c → planned c ≡ P.Plan (plan_of c.src_offset c.dst_offset (bytes c))
-  pub is_accepted : (p : BufferPlan) → planned c ≡ P.Plan p → Accepted c × (plan_of c.src_offset c.dst_offset (bytes c) ≡ p)
+  pub has_plan : Accepted c → planned c ≡ Ok (plan_of c.src_offset c.dst_offset (bytes c))
+  pub is_accepted : (p : BufferPlan) → planned c ≡ Ok p → Accepted c × (plan_of c.src_offset c.dst_offset (bytes c) ≡ p)
 
 abbrev pub EveryCopyLaw : Type 0
 EveryCopyLaw = (c : Copy) → CopyLaw c

@@ -1,8 +1,6 @@
 -- Copies from buffer to buffer: the checks in their order, and the plan.
-use Rattle.std.specs.Prelude.{ℕ, ◌-◌, Bool, ◌&&◌, ◌||◌, not, eqb, ltb}
+use Rattle.std.specs.Prelude.{ℕ, ◌-◌, Bool, ◌&&◌, ◌||◌, not, eqb, ltb, Option, Some, None, Result, Ok}
 use mathlib.Core.List.{[], ◌∷◌, flatten}
-use Rattle.measures.specs.declared.OptionU64.{OptionU64}
-use Rattle.measures.specs.declared.OptionU64.TheVariants as O
 use Rattle.measures.specs.Measure.{multiple}
 use Rattle.flags.specs.BufferUsages as BufferUsages
 use Rattle.flags.specs.Flags.{contains}
@@ -14,14 +12,14 @@ use Rattle.records.specs.declared.Buffer.{Buffer}
 use Rattle.records.specs.declared.Device.{Device}
 use Rattle.records.specs.Bounds.{buffer_checks}
 use Rattle.plan_buffers.specs.Plan.{plan_of}
-use Rattle.copy_buffers.specs.declared.BufferPlanned.{BufferPlanned}
-use Rattle.copy_buffers.specs.declared.BufferPlanned.TheVariants as P
 use Rattle.copy_buffers.specs.Copy.{Copy}
+use Rattle.plan_buffers.specs.declared.BufferPlan.{BufferPlan}
+use Rattle.refusals.specs.declared.TransferError.{TransferError}
 
 -- an absent size is source size − offset
-unfoldable pub size_or : OptionU64 → ℕ → ℕ
-size_or (O.Given n) left = n
-size_or O.Absent left = left
+unfoldable pub size_or : Option ℕ → ℕ → ℕ
+size_or (Some n) left = n
+size_or None left = left
 
 abbrev pub bytes : Copy → ℕ
 bytes c = size_or c.size (c.src.size - c.src_offset)
@@ -52,9 +50,9 @@ buffer_copy_checks c =
     ∷ refuse_if (ltb (c.dst.size - c.dst_offset) (bytes c)) (E.BufferEndOffsetOverrun c.dst_offset (bytes c) c.dst.size Destination)  -- 8
     ∷ []
 
-unfoldable pub planned : Copy → BufferPlanned
-planned c = decided (buffer_copy_checks c) P.Refused (P.Plan (plan_of c.src_offset c.dst_offset (bytes c)))
+unfoldable pub planned : Copy → Result BufferPlan TransferError
+planned c = decided (buffer_copy_checks c) (Ok (plan_of c.src_offset c.dst_offset (bytes c)))
 
-unfoldable pub buffer_to_buffer : Device → ℕ → Buffer → ℕ → ℕ → Buffer → ℕ → OptionU64 → BufferPlanned
+unfoldable pub buffer_to_buffer : Device → ℕ → Buffer → ℕ → ℕ → Buffer → ℕ → Option ℕ → Result BufferPlan TransferError
 buffer_to_buffer device i src srcOffset j dst dstOffset size =
     planned (record { device = device; src_index = i; src = src; src_offset = srcOffset; dst_index = j; dst = dst; dst_offset = dstOffset; size = size })

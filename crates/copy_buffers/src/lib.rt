@@ -7,28 +7,18 @@ ghost use Rattle.copy_buffers.specs.Stages.{fitting_copy, sized_copy, usable_cop
 ghost use Rattle.copy_buffers.specs.Laws.{EveryCopyLaw};
 
 use flags::BufferUsages;
-use measures::OptionU64;
 use plan_buffers::BufferPlan;
 use records::{Buffer, Device};
-use refusals::{Checked, CopySide, DownlevelFlags, TransferError};
+use refusals::{CopySide, DownlevelFlags, TransferError};
 
 // Offsets and size are multiples of this.
 const COPY_BUFFER_ALIGNMENT: u64 = 4;
 
-#[derive(Clone, Copy)]
-pub enum BufferPlanned {
-    Plan(BufferPlan),
-    Refused(TransferError),
-}
-
 #[tactic(auto, unfolding(crate::specs::Plan::size_or))]
-fn size_or(size: OptionU64, left: u64) -> u64
+fn size_or(size: Option<u64>, left: u64) -> u64
     ensures { result ≡ size_or size left }
 {
-    match size {
-        OptionU64::Given(n) => n,
-        OptionU64::Absent => left,
-    }
+    size.unwrap_or(left)
 }
 
 #[tactic(auto, unfolding(crate::specs::Plan::is_shared))]
@@ -70,18 +60,19 @@ fn is_aligned(n: u64) -> bool
     n % COPY_BUFFER_ALIGNMENT == 0
 }
 
+#[tactic(auto, using(refusals::proofs::Stages::copied), unfolding(crate::specs::Stages::fitting_copy))]
 fn copy_fitting(
     src: Buffer,
     source_offset: u64,
     dst: Buffer,
     destination_offset: u64,
     size: u64,
-) -> BufferPlanned
+) -> Result<BufferPlan, TransferError>
     requires { source_offset ≤ src.size }
     ensures { result ≡ fitting_copy src source_offset dst destination_offset size }
 {
     if size > src.size - source_offset {
-        return BufferPlanned::Refused(TransferError::BufferEndOffsetOverrun {
+        return Err(TransferError::BufferEndOffsetOverrun {
             start_offset: source_offset,
             size,
             buffer_size: src.size,
@@ -89,23 +80,24 @@ fn copy_fitting(
         });
     }
     if destination_offset > dst.size {
-        return BufferPlanned::Refused(TransferError::BufferStartOffsetOverrun {
+        return Err(TransferError::BufferStartOffsetOverrun {
             start_offset: destination_offset,
             buffer_size: dst.size,
             side: CopySide::Destination,
         });
     }
     if size > dst.size - destination_offset {
-        return BufferPlanned::Refused(TransferError::BufferEndOffsetOverrun {
+        return Err(TransferError::BufferEndOffsetOverrun {
             start_offset: destination_offset,
             size,
             buffer_size: dst.size,
             side: CopySide::Destination,
         });
     }
-    BufferPlanned::Plan(plan_buffers::plan_of(source_offset, destination_offset, size))
+    Ok(plan_buffers::plan_of(source_offset, destination_offset, size))
 }
 
+#[tactic(auto, using(refusals::proofs::Stages::copied), unfolding(crate::specs::Stages::sized_copy))]
 fn copy_sized(
     device: Device,
     src: Buffer,
@@ -113,25 +105,21 @@ fn copy_sized(
     dst: Buffer,
     destination_offset: u64,
     size: u64,
-) -> BufferPlanned
+) -> Result<BufferPlan, TransferError>
     requires { source_offset ≤ src.size }
     ensures { result ≡ sized_copy device src source_offset dst destination_offset size }
 {
-    let src_usage = src.usage;
-    let dst_usage = dst.usage;
     if !is_aligned(size) {
-        return BufferPlanned::Refused(TransferError::UnalignedCopySize(size));
+        return Err(TransferError::UnalignedCopySize(size));
     }
     if !is_aligned(source_offset) {
-        return BufferPlanned::Refused(TransferError::UnalignedBufferOffset(source_offset));
+        return Err(TransferError::UnalignedBufferOffset(source_offset));
     }
     if !is_aligned(destination_offset) {
-        return BufferPlanned::Refused(TransferError::UnalignedBufferOffset(destination_offset));
+        return Err(TransferError::UnalignedBufferOffset(destination_offset));
     }
-    if lacks_index_fact(device, src_usage, dst_usage) {
-        return BufferPlanned::Refused(TransferError::MissingDownlevelFlags(
-            DownlevelFlags::UnrestrictedIndexBuffer,
-        ));
+    if lacks_index_fact(device, src.usage, dst.usage) {
+        return Err(TransferError::MissingDownlevelFlags(DownlevelFlags::UnrestrictedIndexBuffer));
     }
     copy_fitting(src, source_offset, dst, destination_offset, size)
 }
@@ -143,8 +131,8 @@ fn copy_rest(
     source_offset: u64,
     dst: Buffer,
     destination_offset: u64,
-    size: OptionU64,
-) -> BufferPlanned
+    size: Option<u64>,
+) -> Result<BufferPlan, TransferError>
     requires { source_offset ≤ src.size }
     ensures { result ≡ sized_copy device src source_offset dst destination_offset (size_or size (src.size - source_offset)) }
 {
@@ -152,6 +140,7 @@ fn copy_rest(
     copy_sized(device, src, source_offset, dst, destination_offset, bytes)
 }
 
+#[tactic(auto, using(refusals::proofs::Stages::copied))]
 fn copy_usable(
     device: Device,
     src_index: u32,
@@ -160,27 +149,25 @@ fn copy_usable(
     dst_index: u32,
     dst: Buffer,
     destination_offset: u64,
-    size: OptionU64,
-) -> BufferPlanned
+    size: Option<u64>,
+) -> Result<BufferPlan, TransferError>
     ensures { result ≡ usable_copy device src_index src source_offset dst_index dst destination_offset size }
 {
     if src_index == dst_index {
-        return BufferPlanned::Refused(TransferError::SameSourceDestinationBuffer);
+        return Err(TransferError::SameSourceDestinationBuffer);
     }
-    let src_usage = src.usage;
-    if !src_usage.contains(BufferUsages::COPY_SRC) {
-        return BufferPlanned::Refused(TransferError::MissingBufferUsage {
+    if !src.usage.contains(BufferUsages::COPY_SRC) {
+        return Err(TransferError::MissingBufferUsage {
             side: CopySide::Source,
         });
     }
-    let dst_usage = dst.usage;
-    if !dst_usage.contains(BufferUsages::COPY_DST) {
-        return BufferPlanned::Refused(TransferError::MissingBufferUsage {
+    if !dst.usage.contains(BufferUsages::COPY_DST) {
+        return Err(TransferError::MissingBufferUsage {
             side: CopySide::Destination,
         });
     }
     if source_offset > src.size {
-        return BufferPlanned::Refused(TransferError::BufferStartOffsetOverrun {
+        return Err(TransferError::BufferStartOffsetOverrun {
             start_offset: source_offset,
             buffer_size: src.size,
             side: CopySide::Source,
@@ -198,25 +185,19 @@ pub fn copy_buffer_to_buffer(
     dst_index: u32,
     dst: Buffer,
     destination_offset: u64,
-    size: OptionU64,
-) -> BufferPlanned
+    size: Option<u64>,
+) -> Result<BufferPlan, TransferError>
     ensures { result ≡ buffer_to_buffer device src_index src source_offset dst_index dst destination_offset size }
 {
-    let src_checked = records::check_buffer(src, CopySide::Source);
-    let Checked::GoOn = src_checked else {
-        return BufferPlanned::Refused(rule_answers::why(src_checked));
-    };
-    let dst_checked = records::check_buffer(dst, CopySide::Destination);
-    let Checked::GoOn = dst_checked else {
-        return BufferPlanned::Refused(rule_answers::why(dst_checked));
-    };
+    let src = records::check_buffer(src, CopySide::Source)?;
+    let dst = records::check_buffer(dst, CopySide::Destination)?;
     copy_usable(
         device,
         src_index,
-        src,
+        src.buffer,
         source_offset,
         dst_index,
-        dst,
+        dst.buffer,
         destination_offset,
         size,
     )

@@ -1,63 +1,57 @@
 -- The ranges of a copy, in the order in which they are reported, each with the index of its texture or buffer.
-use Rattle.std.specs.Prelude.{ℕ, ◌+◌, []}
+use Rattle.std.specs.Prelude.{ℕ, ◌+◌, [], Option, Some, None}
 use Rattle.rule_init_ranges.specs.declared.TextureInitRange.{TextureInitRange}
 use Rattle.rule_init_ranges.specs.declared.BufferInitRanges.{BufferInitRanges}
-use Rattle.rule_init_ranges.specs.declared.OptionRange.{OptionRange}
-use Rattle.rule_init_ranges.specs.declared.OptionRange.TheVariants as O
 use Rattle.plan_buffers.specs.declared.BufferPlan.{BufferPlan}
-use Rattle.plan_buffer_texture.specs.declared.CopyRanges.{CopyRanges}
-use Rattle.plan_buffer_texture.specs.declared.CopyRanges.TheVariants as C
-use Rattle.plan_textures.specs.declared.TextureRanges.{TextureRanges}
-use Rattle.plan_textures.specs.declared.TextureRanges.TheVariants as T
-use Rattle.copy_kinds.specs.declared.RangeSlot.{RangeSlot}
-use Rattle.copy_kinds.specs.declared.RangeSlot.TheVariants.{Texture, Buffer, Absent}
+use Rattle.copy_kinds.specs.declared.InitRange.{InitRange}
+use Rattle.copy_kinds.specs.declared.InitRange.TheVariants.{Texture, Buffer}
 use Rattle.copy_kinds.specs.declared.Ranges.{Ranges}
+use Rattle.rule_init_ranges.specs.declared.BufferInitRange.{BufferInitRange}
 
-unfoldable pub buffer_slot : ℕ → OptionRange → RangeSlot
-buffer_slot buffer (O.Given r) = Buffer buffer r
-buffer_slot buffer O.Absent = Absent
+unfoldable pub buffer_slot : ℕ → Option BufferInitRange → Option InitRange
+buffer_slot buffer (Some r) = Some (Buffer buffer r)
+buffer_slot buffer None = None
 
 unfoldable pub no_ranges : Ranges
-no_ranges = record { first = Absent; second = Absent; third = Absent; fourth = Absent }
+no_ranges = record { first = None; second = None; third = None; fourth = None }
 
 -- between buffers the destination's first
 unfoldable pub buffer_ranges : ℕ → ℕ → BufferPlan → Ranges
 buffer_ranges src dst p =
-    record { first = buffer_slot dst p.dst_range; second = buffer_slot src p.src_range; third = Absent; fourth = Absent }
+    record { first = buffer_slot dst p.dst_range; second = buffer_slot src p.src_range; third = None; fourth = None }
 
 -- the texture's, then the buffer's
 unfoldable pub texture_and_buffer : ℕ → TextureInitRange → ℕ → BufferInitRanges → Ranges
 texture_and_buffer texture t buffer b =
     record {
-      first = Texture texture t;
+      first = Some (Texture texture t);
       second = buffer_slot buffer b.head;
       third = buffer_slot buffer b.whole;
       fourth = buffer_slot buffer b.tail;
     }
 
-unfoldable pub copy_ranges : ℕ → ℕ → CopyRanges → Ranges
-copy_ranges texture buffer (C.Given t b) = texture_and_buffer texture t buffer b
-copy_ranges texture buffer C.Absent = no_ranges
+unfoldable pub copy_ranges : ℕ → ℕ → Option (TextureInitRange × BufferInitRanges) → Ranges
+copy_ranges texture buffer (Some (t, b)) = texture_and_buffer texture t buffer b
+copy_ranges texture buffer None = no_ranges
 
 -- from memory the texture's alone
-unfoldable pub memory_ranges : ℕ → CopyRanges → Ranges
-memory_ranges texture (C.Given t b) = record { first = Texture texture t; second = Absent; third = Absent; fourth = Absent }
-memory_ranges texture C.Absent = no_ranges
+unfoldable pub memory_ranges : ℕ → Option (TextureInitRange × BufferInitRanges) → Ranges
+memory_ranges texture (Some (t, b)) = record { first = Some (Texture texture t); second = None; third = None; fourth = None }
+memory_ranges texture None = no_ranges
 
 -- the source's, then the destination's
 unfoldable pub two_textures : ℕ → TextureInitRange → ℕ → TextureInitRange → Ranges
-two_textures src s dst d = record { first = Texture src s; second = Texture dst d; third = Absent; fourth = Absent }
+two_textures src s dst d = record { first = Some (Texture src s); second = Some (Texture dst d); third = None; fourth = None }
 
-unfoldable pub texture_ranges : ℕ → ℕ → TextureRanges → Ranges
-texture_ranges src dst (T.Given s d) = two_textures src s dst d
-texture_ranges src dst T.Absent = no_ranges
+unfoldable pub texture_ranges : ℕ → ℕ → Option (TextureInitRange × TextureInitRange) → Ranges
+texture_ranges src dst (Some (s, d)) = two_textures src s dst d
+texture_ranges src dst None = no_ranges
 
 -- ---- how many there are
 
-unfoldable pub slot_count : RangeSlot → ℕ
-slot_count (Texture i r) = 1
-slot_count (Buffer i r) = 1
-slot_count Absent = 0
+unfoldable pub slot_count : Option InitRange → ℕ
+slot_count (Some r) = 1
+slot_count None = 0
 
 unfoldable pub count_of : Ranges → ℕ
 count_of r = slot_count r.first + slot_count r.second + slot_count r.third + slot_count r.fourth

@@ -1,50 +1,40 @@
 #![tactic(auto)]
 // A copy of any of the five kinds, with the records that it names: its plan and ranges, or its refusal.
 ghost use Rattle.std.specs.Prelude.{◌≡◌, [], ◌≤◌};
-ghost use Rattle.copy_kinds.specs.Planned.{of_buffers, of_buffer_texture, of_memory, of_textures, planned_buffers, planned_upload, planned_memory_upload, planned_download, planned_textures};
+ghost use Rattle.copy_kinds.specs.Planned.{planned_buffers, planned_upload, planned_memory_upload, planned_download, planned_textures};
 ghost use Rattle.copy_kinds.specs.Ranges.{buffer_slot, no_ranges, buffer_ranges, texture_and_buffer, copy_ranges, memory_ranges, two_textures, texture_ranges, slot_count, count_of};
 
-use copy_buffer_texture::BufferTexturePlanned;
-use copy_buffers::BufferPlanned;
-use copy_textures::TexturePlanned;
-use measures::{Extent3d, OptionU64};
-use plan_buffer_texture::{BufferTexturePlan, CopyRanges};
+use measures::Extent3d;
+use plan_buffer_texture::BufferTexturePlan;
 use plan_buffers::BufferPlan;
 use plan_kinds::Plan;
-use plan_textures::{TexturePlan, TextureRanges};
+use plan_textures::TexturePlan;
 use records::{Buffer, Device, TexelCopyBufferLayout, TexelCopyTextureInfo, Texture, TextureSide};
 use refusals::TransferError;
-use rule_init_ranges::{BufferInitRange, BufferInitRanges, OptionRange, TextureInitRange};
+use rule_init_ranges::{BufferInitRange, BufferInitRanges, TextureInitRange};
 
-// A range of the texture or the buffer of an index, or none.
+// A range of the texture or the buffer of an index.
 #[derive(Clone, Copy)]
-pub enum RangeSlot {
+pub enum InitRange {
     Texture(u32, TextureInitRange),
     Buffer(u32, BufferInitRange),
-    Absent,
 }
 
 // The ranges of a copy in their order, with slots between them that may be absent.
 #[derive(Clone, Copy)]
 pub struct Ranges {
-    pub first: RangeSlot,
-    pub second: RangeSlot,
-    pub third: RangeSlot,
-    pub fourth: RangeSlot,
+    pub first: Option<InitRange>,
+    pub second: Option<InitRange>,
+    pub third: Option<InitRange>,
+    pub fourth: Option<InitRange>,
 }
 
-#[derive(Clone, Copy)]
-pub enum Planned {
-    Plan(Plan, Ranges),
-    Refused(TransferError),
-}
-
-fn buffer_slot(buffer: u32, range: OptionRange) -> RangeSlot
+fn buffer_slot(buffer: u32, range: Option<BufferInitRange>) -> Option<InitRange>
     ensures { result ≡ buffer_slot buffer range }
 {
     match range {
-        OptionRange::Given(r) => RangeSlot::Buffer(buffer, r),
-        OptionRange::Absent => RangeSlot::Absent,
+        Some(r) => Some(InitRange::Buffer(buffer, r)),
+        None => None,
     }
 }
 
@@ -53,10 +43,10 @@ fn no_ranges() -> Ranges
     ensures { result ≡ no_ranges }
 {
     Ranges {
-        first: RangeSlot::Absent,
-        second: RangeSlot::Absent,
-        third: RangeSlot::Absent,
-        fourth: RangeSlot::Absent,
+        first: None,
+        second: None,
+        third: None,
+        fourth: None,
     }
 }
 
@@ -64,15 +54,11 @@ fn no_ranges() -> Ranges
 fn buffer_ranges(src: u32, dst: u32, plan: BufferPlan) -> Ranges
     ensures { result ≡ buffer_ranges src dst plan }
 {
-    let written = plan.dst_range;
-    let read = plan.src_range;
-    let first = buffer_slot(dst, written);
-    let second = buffer_slot(src, read);
     Ranges {
-        first,
-        second,
-        third: RangeSlot::Absent,
-        fourth: RangeSlot::Absent,
+        first: buffer_slot(dst, plan.dst_range),
+        second: buffer_slot(src, plan.src_range),
+        third: None,
+        fourth: None,
     }
 }
 
@@ -80,40 +66,38 @@ fn buffer_ranges(src: u32, dst: u32, plan: BufferPlan) -> Ranges
 fn texture_and_buffer(texture: u32, t: TextureInitRange, buffer: u32, b: BufferInitRanges) -> Ranges
     ensures { result ≡ texture_and_buffer texture t buffer b }
 {
-    let head = b.head;
-    let whole = b.whole;
-    let tail = b.tail;
-    let second = buffer_slot(buffer, head);
-    let third = buffer_slot(buffer, whole);
-    let fourth = buffer_slot(buffer, tail);
     Ranges {
-        first: RangeSlot::Texture(texture, t),
-        second,
-        third,
-        fourth,
+        first: Some(InitRange::Texture(texture, t)),
+        second: buffer_slot(buffer, b.head),
+        third: buffer_slot(buffer, b.whole),
+        fourth: buffer_slot(buffer, b.tail),
     }
 }
 
-fn copy_ranges(texture: u32, buffer: u32, ranges: CopyRanges) -> Ranges
+fn copy_ranges(
+    texture: u32,
+    buffer: u32,
+    ranges: Option<(TextureInitRange, BufferInitRanges)>,
+) -> Ranges
     ensures { result ≡ copy_ranges texture buffer ranges }
 {
     match ranges {
-        CopyRanges::Given(t, b) => texture_and_buffer(texture, t, buffer, b),
-        CopyRanges::Absent => no_ranges(),
+        Some((t, b)) => texture_and_buffer(texture, t, buffer, b),
+        None => no_ranges(),
     }
 }
 
-fn memory_ranges(texture: u32, ranges: CopyRanges) -> Ranges
+fn memory_ranges(texture: u32, ranges: Option<(TextureInitRange, BufferInitRanges)>) -> Ranges
     ensures { result ≡ memory_ranges texture ranges }
 {
     match ranges {
-        CopyRanges::Given(t, _) => Ranges {
-            first: RangeSlot::Texture(texture, t),
-            second: RangeSlot::Absent,
-            third: RangeSlot::Absent,
-            fourth: RangeSlot::Absent,
+        Some((t, _)) => Ranges {
+            first: Some(InitRange::Texture(texture, t)),
+            second: None,
+            third: None,
+            fourth: None,
         },
-        CopyRanges::Absent => no_ranges(),
+        None => no_ranges(),
     }
 }
 
@@ -122,90 +106,23 @@ fn two_textures(src: u32, s: TextureInitRange, dst: u32, d: TextureInitRange) ->
     ensures { result ≡ two_textures src s dst d }
 {
     Ranges {
-        first: RangeSlot::Texture(src, s),
-        second: RangeSlot::Texture(dst, d),
-        third: RangeSlot::Absent,
-        fourth: RangeSlot::Absent,
+        first: Some(InitRange::Texture(src, s)),
+        second: Some(InitRange::Texture(dst, d)),
+        third: None,
+        fourth: None,
     }
 }
 
-fn texture_ranges(src: u32, dst: u32, ranges: TextureRanges) -> Ranges
+fn texture_ranges(
+    src: u32,
+    dst: u32,
+    ranges: Option<(TextureInitRange, TextureInitRange)>,
+) -> Ranges
     ensures { result ≡ texture_ranges src dst ranges }
 {
     match ranges {
-        TextureRanges::Given(s, d) => two_textures(src, s, dst, d),
-        TextureRanges::Absent => no_ranges(),
-    }
-}
-
-fn ranges_of_copy(texture: u32, buffer: u32, plan: BufferTexturePlan) -> Ranges
-    ensures { result ≡ copy_ranges texture buffer plan.ranges }
-{
-    let ranges = plan.ranges;
-    copy_ranges(texture, buffer, ranges)
-}
-
-fn ranges_of_memory_upload(texture: u32, plan: BufferTexturePlan) -> Ranges
-    ensures { result ≡ memory_ranges texture plan.ranges }
-{
-    let ranges = plan.ranges;
-    memory_ranges(texture, ranges)
-}
-
-fn ranges_of_textures(src: u32, dst: u32, plan: TexturePlan) -> Ranges
-    ensures { result ≡ texture_ranges src dst plan.ranges }
-{
-    let ranges = plan.ranges;
-    texture_ranges(src, dst, ranges)
-}
-
-fn of_buffers(src: u32, dst: u32, answer: BufferPlanned) -> Planned
-    ensures { result ≡ of_buffers src dst answer }
-{
-    match answer {
-        BufferPlanned::Plan(plan) => {
-            Planned::Plan(Plan::Buffers(plan), buffer_ranges(src, dst, plan))
-        },
-        BufferPlanned::Refused(why) => Planned::Refused(why),
-    }
-}
-
-fn of_buffer_texture(texture: u32, buffer: u32, answer: BufferTexturePlanned) -> Planned
-    ensures { result ≡ of_buffer_texture texture buffer answer }
-{
-    match answer {
-        BufferTexturePlanned::Plan(plan) => {
-            Planned::Plan(
-                Plan::BufferTexture(plan),
-                ranges_of_copy(texture, buffer, plan),
-            )
-        },
-        BufferTexturePlanned::Refused(why) => Planned::Refused(why),
-    }
-}
-
-fn of_memory(texture: u32, answer: BufferTexturePlanned) -> Planned
-    ensures { result ≡ of_memory texture answer }
-{
-    match answer {
-        BufferTexturePlanned::Plan(plan) => {
-            Planned::Plan(
-                Plan::BufferTexture(plan),
-                ranges_of_memory_upload(texture, plan),
-            )
-        },
-        BufferTexturePlanned::Refused(why) => Planned::Refused(why),
-    }
-}
-
-fn of_textures(src: u32, dst: u32, answer: TexturePlanned) -> Planned
-    ensures { result ≡ of_textures src dst answer }
-{
-    match answer {
-        TexturePlanned::Plan(plan) => {
-            Planned::Plan(Plan::Textures(plan), ranges_of_textures(src, dst, plan))
-        },
-        TexturePlanned::Refused(why) => Planned::Refused(why),
+        Some((s, d)) => two_textures(src, s, dst, d),
+        None => no_ranges(),
     }
 }
 
@@ -218,14 +135,15 @@ pub fn plan_buffers(
     dst_index: u32,
     dst: Buffer,
     dst_offset: u64,
-    size: OptionU64,
-) -> Planned
+    size: Option<u64>,
+) -> Result<(Plan, Ranges), TransferError>
     ensures { result ≡ planned_buffers device src_index src src_offset dst_index dst dst_offset size }
 {
-    let answer = copy_buffers::copy_buffer_to_buffer(
+    let plan = copy_buffers::copy_buffer_to_buffer(
         device, src_index, src, src_offset, dst_index, dst, dst_offset, size,
-    );
-    of_buffers(src_index, dst_index, answer)
+    )?;
+    let ranges = buffer_ranges(src_index, dst_index, plan);
+    Ok((Plan::Buffers(plan), ranges))
 }
 
 // The same of a copy from a buffer into a texture.
@@ -238,13 +156,14 @@ pub fn plan_upload(
     texture: Texture,
     view: TexelCopyTextureInfo,
     size: Extent3d,
-) -> Planned
+) -> Result<(Plan, Ranges), TransferError>
     ensures { result ≡ planned_upload device buffer_index buffer layout texture_index texture view size }
 {
-    let answer = copy_buffer_texture::copy_buffer_to_texture(
+    let plan = copy_buffer_texture::copy_buffer_to_texture(
         device, buffer, layout, texture, view, size,
-    );
-    of_buffer_texture(texture_index, buffer_index, answer)
+    )?;
+    let ranges = copy_ranges(texture_index, buffer_index, plan.ranges);
+    Ok((Plan::BufferTexture(plan), ranges))
 }
 
 // The same of a copy from a block of memory into a texture.
@@ -256,13 +175,14 @@ pub fn plan_memory_upload(
     texture: Texture,
     view: TexelCopyTextureInfo,
     size: Extent3d,
-) -> Planned
+) -> Result<(Plan, Ranges), TransferError>
     ensures { result ≡ planned_memory_upload device length layout texture_index texture view size }
 {
-    let answer = copy_buffer_texture::copy_memory_to_texture(
+    let plan = copy_buffer_texture::copy_memory_to_texture(
         device, length, layout, texture, view, size,
-    );
-    of_memory(texture_index, answer)
+    )?;
+    let ranges = memory_ranges(texture_index, plan.ranges);
+    Ok((Plan::BufferTexture(plan), ranges))
 }
 
 // The same of a copy from a texture into a buffer.
@@ -275,13 +195,14 @@ pub fn plan_download(
     buffer: Buffer,
     layout: TexelCopyBufferLayout,
     size: Extent3d,
-) -> Planned
+) -> Result<(Plan, Ranges), TransferError>
     ensures { result ≡ planned_download device texture_index texture view buffer_index buffer layout size }
 {
-    let answer = copy_buffer_texture::copy_texture_to_buffer(
+    let plan = copy_buffer_texture::copy_texture_to_buffer(
         device, texture, view, buffer, layout, size,
-    );
-    of_buffer_texture(texture_index, buffer_index, answer)
+    )?;
+    let ranges = copy_ranges(texture_index, buffer_index, plan.ranges);
+    Ok((Plan::BufferTexture(plan), ranges))
 }
 
 // The same of a copy between textures.
@@ -291,21 +212,22 @@ pub fn plan_textures(
     dst_index: u32,
     dst: TextureSide,
     size: Extent3d,
-) -> Planned
+) -> Result<(Plan, Ranges), TransferError>
     ensures { result ≡ planned_textures src_index src dst_index dst size }
 {
-    let answer = copy_textures::copy_texture_to_texture(src_index, src, dst_index, dst, size);
-    of_textures(src_index, dst_index, answer)
+    let plan = copy_textures::copy_texture_to_texture(src_index, src, dst_index, dst, size)?;
+    let ranges = texture_ranges(src_index, dst_index, plan.ranges);
+    Ok((Plan::Textures(plan), ranges))
 }
 
-fn slot_count(slot: RangeSlot) -> u32
+#[tactic(auto, unfolding(crate::specs::Ranges::slot_count))]
+fn slot_count(slot: Option<InitRange>) -> u32
     ensures value { result ≡ slot_count slot }
     ensures few { result ≤ 1 }
 {
     match slot {
-        RangeSlot::Texture(_, _) => 1,
-        RangeSlot::Buffer(_, _) => 1,
-        RangeSlot::Absent => 0,
+        Some(_) => 1,
+        None => 0,
     }
 }
 
@@ -315,14 +237,10 @@ impl Ranges {
     pub fn count(self) -> u32
         ensures { result ≡ count_of self }
     {
-        let first = self.first;
-        let second = self.second;
-        let third = self.third;
-        let fourth = self.fourth;
-        let a = slot_count(first);
-        let b = slot_count(second);
-        let c = slot_count(third);
-        let d = slot_count(fourth);
+        let a = slot_count(self.first);
+        let b = slot_count(self.second);
+        let c = slot_count(self.third);
+        let d = slot_count(self.fourth);
         a + b + c + d
     }
 }

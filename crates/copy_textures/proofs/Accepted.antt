@@ -1,5 +1,6 @@
 -- Where a copy between textures is accepted.
 -- Assumes nothing.
+use Rattle.std.specs.Prelude.{Ok}
 use mathlib.Core.Path.{◌≡◌, refl}
 use mathlib.Core.Bool.{Bool, true, false, not, ◌&&◌}
 use mathlib.Core.List.{[], ◌∷◌, flatten}
@@ -20,17 +21,9 @@ use Rattle.rule_copy_range.proofs.Accepted.{Run, run_of, run_goes, every_range}
 use Rattle.rule_selectors.specs.Selector.{selector_checks, same_texture_checks}
 use Rattle.records.specs.declared.TextureSide.{TextureSide}
 use Rattle.plan_textures.specs.declared.TexturePlan.{TexturePlan}
-use Rattle.copy_textures.specs.declared.TexturePlanned.{TexturePlanned}
-use Rattle.copy_textures.specs.declared.TexturePlanned.TheVariants as P
 use Rattle.copy_textures.specs.Copy.{BetweenTextures, is_one_texture, splits, formats_differ, plane_width, plane_height, plan_for}
 use Rattle.copy_textures.specs.Plan.{plane_checks, texture_copy_checks, texture_to_texture}
 use Rattle.copy_textures.specs.Laws.{Accepted, planned, EveryCopyLaw}
-
-no_plan_lem : {e : TransferError} {p : TexturePlan} → P.Refused e ≡ P.Plan p → ⊥
-no_plan_lem h = let z : ◌≡◌ {A = ℕ} 0 1 = cc in omega arith
-
-same_plan : {p q : TexturePlan} → P.Plan p ≡ P.Plan q → p ≡ q
-same_plan e = cc
 
 -- ---- rules of one check, and checks under a test
 
@@ -100,10 +93,10 @@ module _ (src : TextureSide) (size : Extent3d) where
 -- ---- the whole list
 
 module _ (c : BetweenTextures) where
-  accepted : (p : TexturePlan) → planned c ≡ P.Plan p → Accepted c × (plan_for c ≡ p)
+  accepted : (p : TexturePlan) → planned c ≡ Ok p → Accepted c × (plan_for c ≡ p)
   unfolding texture_to_texture texture_copy_checks texture_checks selector_checks same_texture_checks formats_differ
   accepted p h =
-      let k = none_found TexturePlanned P.Refused (P.Plan (plan_for c)) (texture_copy_checks c) (P.Plan p) h (λ e. no_plan_lem) in
+      let k = none_found TexturePlan (plan_for c) (texture_copy_checks c) p h in
       let n = k.0 in (
         record {
           src_bounds = not-false _ (alone_fails _ _ (n 0));
@@ -122,13 +115,13 @@ module _ (c : BetweenTextures) where
           src_usage = not-false _ (test_fails _ _ (n 12));
           dst_usage = not-false _ (test_fails _ _ (n 13));
         },
-        same_plan k.1,
+        k.1,
       )
 
-  has_plan : Accepted c → planned c ≡ P.Plan (plan_for c)
+  has_plan : Accepted c → planned c ≡ Ok (plan_for c)
   unfolding texture_to_texture texture_copy_checks texture_checks selector_checks same_texture_checks formats_differ
   has_plan a =
-      all_pass TexturePlanned P.Refused (P.Plan (plan_for c)) (texture_copy_checks c) (
+      all_pass TexturePlan (plan_for c) (texture_copy_checks c) (
         alone_off _ _ (not_no _ a.src_bounds),
         (
           alone_off _ _ (not_no _ a.dst_bounds),

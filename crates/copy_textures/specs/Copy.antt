@@ -1,9 +1,7 @@
 -- A copy between textures, and what of it the checks and the plan speak of.
-use Rattle.std.specs.Prelude.{ℕ, Bool, false, not, eqb}
+use Rattle.std.specs.Prelude.{ℕ, Bool, false, not, eqb, Option, Some, None}
 use Rattle.measures.specs.declared.Texels.{Texels}
 use Rattle.measures.specs.declared.Extent3d.{Extent3d}
-use Rattle.measures.specs.declared.OptionU32.{OptionU32}
-use Rattle.measures.specs.declared.OptionU32.TheVariants as O
 use Rattle.measures.specs.Measure.{divided_by}
 use Rattle.formats.specs.Table.{aspects_of, remove_srgb}
 use Rattle.formats.specs.Aspects.{chosen_aspects, aspect_specific_format, subsampling_factor}
@@ -28,9 +26,9 @@ unfoldable pub is_one_texture : BetweenTextures → Bool
 is_one_texture c = eqb c.src_index c.dst_index
 
 -- given, and this number
-unfoldable pub is_this : OptionU32 → ℕ → Bool
-is_this (O.Given n) m = eqb n m
-is_this O.Absent m = false
+unfoldable pub is_this : Option ℕ → ℕ → Bool
+is_this (Some n) m = eqb n m
+is_this None m = false
 
 -- a planar source into the format of its asked plane
 unfoldable pub is_plane_split : TextureSide → TextureSide → Bool

@@ -1,5 +1,5 @@
 -- What callers use of an accepted copy between textures.
-use Rattle.std.specs.Prelude.{◌≡◌, true, false, ◌+◌, ◌≤◌, eqb}
+use Rattle.std.specs.Prelude.{◌≡◌, true, false, ◌+◌, ◌≤◌, eqb, Result, Ok}
 use Rattle.flags.specs.TextureUsages as TextureUsages
 use Rattle.flags.specs.Flags.{contains}
 use Rattle.formats.specs.Table.{aspects_of, remove_srgb}
@@ -7,10 +7,9 @@ use Rattle.records.specs.Bounds.{texture_in_bounds}
 use Rattle.rule_copy_range.specs.Laws.{RangeLaws}
 use Rattle.rule_selectors.specs.Selector.{overlaps}
 use Rattle.plan_textures.specs.declared.TexturePlan.{TexturePlan}
-use Rattle.copy_textures.specs.declared.TexturePlanned.{TexturePlanned}
-use Rattle.copy_textures.specs.declared.TexturePlanned.TheVariants as P
 use Rattle.copy_textures.specs.Copy.{BetweenTextures, is_one_texture, splits, plane_width, plane_height, chosen, layers, plan_for}
 use Rattle.copy_textures.specs.Plan.{texture_to_texture}
+use Rattle.refusals.specs.declared.TransferError.{TransferError}
 
 pub record Accepted (c : BetweenTextures) : Type 0 where
   -- both records are within their bounds
@@ -35,13 +34,13 @@ pub record Accepted (c : BetweenTextures) : Type 0 where
   pub src_usage : contains c.src.texture.usage.0 TextureUsages.COPY_SRC ≡ true
   pub dst_usage : contains c.dst.texture.usage.0 TextureUsages.COPY_DST ≡ true
 
-abbrev pub planned : BetweenTextures → TexturePlanned
+abbrev pub planned : BetweenTextures → Result TexturePlan TransferError
 planned c = texture_to_texture c.src_index c.src c.dst_index c.dst c.size
 
 -- a copy is accepted exactly where these hold, and then this is its plan
 pub record CopyLaw (c : BetweenTextures) : Type 0 where
-  pub has_plan : Accepted c → planned c ≡ P.Plan (plan_for c)
-  pub is_accepted : (p : TexturePlan) → planned c ≡ P.Plan p → Accepted c × (plan_for c ≡ p)
+  pub has_plan : Accepted c → planned c ≡ Ok (plan_for c)
+  pub is_accepted : (p : TexturePlan) → planned c ≡ Ok p → Accepted c × (plan_for c ≡ p)
 
 abbrev pub EveryCopyLaw : Type 0
 EveryCopyLaw = (c : BetweenTextures) → CopyLaw c

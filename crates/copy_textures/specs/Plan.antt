@@ -1,5 +1,5 @@
 -- Copies from texture to texture: the checks in their order, each with its number, and the plan.
-use Rattle.std.specs.Prelude.{ℕ, false, ◌&&◌, not, eqb}
+use Rattle.std.specs.Prelude.{ℕ, false, ◌&&◌, not, eqb, Result, Ok}
 use mathlib.Core.List.{[], ◌∷◌, flatten}
 use Rattle.conditions.specs.Conditions.{pick}
 use Rattle.measures.specs.declared.Extent3d.{Extent3d}
@@ -13,9 +13,9 @@ use Rattle.records.specs.Bounds.{texture_checks}
 use Rattle.rule_copy_range.specs.Range.{subject_of, dimension_checks, range_checks}
 use Rattle.rule_selectors.specs.Selector.{selector_checks, same_texture_checks}
 use Rattle.records.specs.declared.TextureSide.{TextureSide}
-use Rattle.copy_textures.specs.declared.TexturePlanned.{TexturePlanned}
-use Rattle.copy_textures.specs.declared.TexturePlanned.TheVariants as P
 use Rattle.copy_textures.specs.Copy.{BetweenTextures, between, is_one_texture, splits, formats_differ, plane_width, plane_height, lacks_aspects, layers, plan_for}
+use Rattle.plan_textures.specs.declared.TexturePlan.{TexturePlan}
+use Rattle.refusals.specs.declared.TransferError.{TransferError}
 
 -- X and Y of the source against its plane
 unfoldable pub plane_checks : TextureSide → Extent3d → Checks
@@ -43,5 +43,5 @@ texture_copy_checks c =
     ∷ []
 
 -- the textures are told apart by their indices
-unfoldable pub texture_to_texture : ℕ → TextureSide → ℕ → TextureSide → Extent3d → TexturePlanned
-texture_to_texture i src j dst size = let c = between i src j dst size in decided (texture_copy_checks c) P.Refused (P.Plan (plan_for c))
+unfoldable pub texture_to_texture : ℕ → TextureSide → ℕ → TextureSide → Extent3d → Result TexturePlan TransferError
+texture_to_texture i src j dst size = let c = between i src j dst size in decided (texture_copy_checks c) (Ok (plan_for c))

@@ -1,5 +1,6 @@
 -- The rows of the table, and the laws that they keep.
 -- Assumes nothing.
+use Rattle.std.specs.Prelude.{Some, None}
 use mathlib.Core.Path.{◌≡◌, refl, sym, ap, ◌∙◌}
 use mathlib.Core.Bool.{Bool, true, false}
 use mathlib.Core.List.{List, [], ◌∷◌}
@@ -11,7 +12,6 @@ use borrow.Author.Tests.{ltb-true, leb-true, eqb-true, eqb-false}
 use Rattle.conditions.specs.Conditions.{pick, every, stop_if}
 use Rattle.conditions.proofs.Rules.{AllTrue, all_true}
 use Rattle.conditions.proofs.Tables.{at_each}
-use Rattle.measures.specs.declared.OptionU32.TheVariants.{Given, Absent}
 use Rattle.measures.specs.Measure.{or_else}
 use Rattle.formats.specs.declared.FormatRow.{FormatRow}
 use Rattle.formats.specs.declared.TextureAspect.{TextureAspect}
@@ -90,10 +90,10 @@ bytes_few r s aspects = go (eqb aspects 1) (eqb aspects 2) (eqb aspects 4) (eqb 
     go false false false false true = s.plane_1_lem
     go false false false false false = omega arith
 
-given : (bytes n : ℕ) → unless_none bytes ≡ Given n → (0 < bytes) × (bytes ≡ n)
+given : (bytes n : ℕ) → unless_none bytes ≡ Some n → (0 < bytes) × (bytes ≡ n)
 given bytes n = go (eqb bytes 0) refl
   where
-    go : (t : Bool) → eqb bytes 0 ≡ t → pick t Absent (Given bytes) ≡ Given n → (0 < bytes) × (bytes ≡ n)
+    go : (t : Bool) → eqb bytes 0 ≡ t → pick t None (Some bytes) ≡ Some n → (0 < bytes) × (bytes ≡ n)
     go true q e = let z : ◌≡◌ {A = ℕ} 0 1 = cc in absurd (omega arith)
     go false q e = (pos_of_ne-zero (eqb-false _ _ q), cc)
 
@@ -125,8 +125,8 @@ pub color_size :
     (format : ℕ) (asked : TextureAspect) (aspects : ℕ)
     → aspects ≡ aspects_of format
     → asked_of aspects asked ≡ 1
-    → (format_row format).color ≡ or_else (block_copy_size format asked) 0
+    → (format_row format).color ≡ bytes_of (format_row format) (chosen_aspects format asked)
 unfolding chosen_aspects bytes_of stop_if
 color_size format asked aspects e h =
     let chosen : asked_of (aspects_of format) asked ≡ 1 = ap (λ x. asked_of x asked) (sym e) ∙ h in
-    ap (bytes_of (format_row format)) (sym chosen) ∙ chosen_size format asked
+    ap (bytes_of (format_row format)) (sym chosen)

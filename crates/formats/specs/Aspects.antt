@@ -1,10 +1,8 @@
 -- The aspects that a copy chooses of a format, and what they bring.
-use Rattle.std.specs.Prelude.{ℕ, [], ◌∷◌, eqb, get_or}
+use Rattle.std.specs.Prelude.{ℕ, [], ◌∷◌, eqb, get_or, Option, Some, None}
 use Rattle.conditions.specs.Conditions.{pick, stop_if, ◌$◌}
 use Rattle.flags.specs.Flags.{meet}
 use Rattle.flags.specs.FormatAspects.{COLOR, DEPTH, STENCIL, PLANE_0, PLANE_1, PLANE_2}
-use Rattle.measures.specs.declared.OptionU32.{OptionU32}
-use Rattle.measures.specs.declared.OptionU32.TheVariants.{Given, Absent}
 use Rattle.formats.specs.declared.FormatRow.{FormatRow}
 use Rattle.formats.specs.declared.TextureAspect.{TextureAspect}
 use Rattle.formats.specs.declared.TextureAspect.TheVariants.{All, StencilOnly, DepthOnly, Plane0, Plane1, Plane2}
@@ -41,26 +39,26 @@ bytes_of row aspects =
     stop_if (eqb aspects PLANE_1) row.plane_1 $
     none
 
-abbrev pub unless_none : ℕ → OptionU32
-unless_none bytes = pick (eqb bytes none) Absent (Given bytes)
+abbrev pub unless_none : ℕ → Option ℕ
+unless_none bytes = pick (eqb bytes none) None (Some bytes)
 
 -- the bytes of a block of what is chosen, where it has some
-unfoldable pub block_copy_size : ℕ → TextureAspect → OptionU32
+unfoldable pub block_copy_size : ℕ → TextureAspect → Option ℕ
 block_copy_size format asked = unless_none (bytes_of (format_row format) (chosen_aspects format asked))
 
 -- the format that a plane of a planar format may be split into: r8unorm of plane 0, rg8unorm of plane 1
-unfoldable pub plane_format : TextureAspect → OptionU32
-plane_format All = Absent
-plane_format StencilOnly = Absent
-plane_format DepthOnly = Absent
-plane_format Plane0 = Given 0
-plane_format Plane1 = Given 1
-plane_format Plane2 = Absent
+unfoldable pub plane_format : TextureAspect → Option ℕ
+plane_format All = None
+plane_format StencilOnly = None
+plane_format DepthOnly = None
+plane_format Plane0 = Some 0
+plane_format Plane1 = Some 1
+plane_format Plane2 = None
 
-unfoldable pub aspect_specific_format : ℕ → TextureAspect → OptionU32
+unfoldable pub aspect_specific_format : ℕ → TextureAspect → Option ℕ
 aspect_specific_format format asked =
     stop_if (is_multi_planar format) (plane_format asked) $
-    Absent
+    None
 
 -- plane 1 of a planar format is halved both ways
 unfoldable pub subsampling_factor : TextureAspect → ℕ

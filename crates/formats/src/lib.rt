@@ -8,7 +8,7 @@ ghost use Rattle.formats.specs.Aspects.{aspect_of, asked_of, chosen_aspects, byt
 ghost use Rattle.formats.specs.Laws.{EveryFormat, max_block_side};
 
 use flags::FormatAspects;
-use measures::{BlockDimensions, OptionU32, Texels};
+use measures::{BlockDimensions, BlockSide, Texels};
 
 // How many formats the table has.
 const FORMAT_COUNT: u32 = 22;
@@ -110,6 +110,7 @@ fn planar(aspects: FormatAspects, plane_0: u32, plane_1: u32) -> FormatRow
 }
 
 // The table. A number past it names a format with no aspects.
+#[tactic(auto, using(crate::proofs::Rows::arm), unfolding(crate::specs::Table::formats, crate::specs::Table::format_row))]
 fn format_row(format: u32) -> FormatRow
     ensures { result ≡ format_row format }
 {
@@ -154,8 +155,8 @@ pub fn block_dimensions(format: u32) -> BlockDimensions
 {
     let row = format_row(format);
     BlockDimensions {
-        width: Texels(row.block_width),
-        height: Texels(row.block_height),
+        width: BlockSide::new(Texels(row.block_width)),
+        height: BlockSide::new(Texels(row.block_height)),
     }
 }
 
@@ -268,22 +269,27 @@ fn is_color(aspects: FormatAspects, asked: TextureAspect) -> bool
 {
     match asked {
         TextureAspect::All => aspects.0 == FormatAspects::COLOR.0,
-        TextureAspect::StencilOnly => false,
-        TextureAspect::DepthOnly => false,
-        TextureAspect::Plane0 => false,
-        TextureAspect::Plane1 => false,
-        TextureAspect::Plane2 => false,
+        _ => false,
     }
 }
 
-// The bytes of a block of the one aspect that a copy chooses, 0 where it has none. Nearly every copy is of a colour format.
-pub fn block_copy_size(format: u32, asked: TextureAspect) -> u32
-    ensures { result ≡ or_else (block_copy_size format asked) 0 }
+// The bytes of a block of the one aspect that a copy chooses; `NONE` where it has none. Nearly every copy is of a colour format.
+fn chosen_bytes(format: u32, asked: TextureAspect) -> u32
+    ensures { result ≡ bytes_of (format_row format) (chosen_aspects format asked) }
 {
     if is_color(format_aspects(format), asked) {
         return color_bytes(format);
     }
     bytes_of(format, chosen_aspects(format, asked))
+}
+
+// The same, where it has some.
+#[tactic(auto, unfolding(crate::specs::Aspects::block_copy_size))]
+pub fn block_copy_size(format: u32, asked: TextureAspect) -> Option<u32>
+    ensures { result ≡ block_copy_size format asked }
+{
+    let bytes = chosen_bytes(format, asked);
+    if bytes == NONE { None } else { Some(bytes) }
 }
 
 #[tactic(auto, unfolding(crate::specs::Table::is_depth_stencil))]
@@ -317,27 +323,24 @@ pub fn is_multi_planar_format(format: u32) -> bool
 }
 
 #[tactic(auto, unfolding(crate::specs::Aspects::plane_format))]
-fn plane_format(asked: TextureAspect) -> OptionU32
+fn plane_format(asked: TextureAspect) -> Option<u32>
     ensures { result ≡ plane_format asked }
 {
     match asked {
-        TextureAspect::All => OptionU32::Absent,
-        TextureAspect::StencilOnly => OptionU32::Absent,
-        TextureAspect::DepthOnly => OptionU32::Absent,
-        TextureAspect::Plane0 => OptionU32::Given(0),
-        TextureAspect::Plane1 => OptionU32::Given(1),
-        TextureAspect::Plane2 => OptionU32::Absent,
+        TextureAspect::Plane0 => Some(0),
+        TextureAspect::Plane1 => Some(1),
+        _ => None,
     }
 }
 
 // The format that the asked plane of a planar format may be copied into.
-pub fn aspect_specific_format(format: u32, asked: TextureAspect) -> OptionU32
+pub fn aspect_specific_format(format: u32, asked: TextureAspect) -> Option<u32>
     ensures { result ≡ aspect_specific_format format asked }
 {
     if is_multi_planar_format(format) {
         return plane_format(asked);
     }
-    OptionU32::Absent
+    None
 }
 
 // How many texels of the format one texel of the asked plane stands for, on X and on Y.
@@ -346,12 +349,8 @@ pub fn subsampling_factor(asked: TextureAspect) -> u32
     ensures { result ≡ subsampling_factor asked }
 {
     match asked {
-        TextureAspect::All => 1,
-        TextureAspect::StencilOnly => 1,
-        TextureAspect::DepthOnly => 1,
-        TextureAspect::Plane0 => 1,
         TextureAspect::Plane1 => 2,
-        TextureAspect::Plane2 => 1,
+        _ => 1,
     }
 }
 

@@ -1,16 +1,14 @@
 -- Texels counted in blocks, of any block size of at least 1.
-use Rattle.std.specs.Prelude.{ℕ, ◌+◌, ◌-◌, ◌*◌, ◌/◌, ◌%◌, min, Bool, ◌||◌, eqb}
+use Rattle.std.specs.Prelude.{ℕ, ◌+◌, ◌-◌, ◌*◌, ◌/◌, ◌%◌, min, Bool, ◌||◌, eqb, Option, Some, None}
 use Rattle.measures.specs.declared.Texels.{Texels}
 use Rattle.measures.specs.declared.Blocks.{Blocks}
 use Rattle.measures.specs.declared.Extent3d.{Extent3d}
 use Rattle.measures.specs.declared.BlockDimensions.{BlockDimensions}
-use Rattle.measures.specs.declared.OptionU32.{OptionU32}
-use Rattle.measures.specs.declared.OptionU32.TheVariants.{Given, Absent}
 
 -- a value, or another where it is absent
-unfoldable pub or_else : OptionU32 → ℕ → ℕ
-or_else (Given n) other = n
-or_else Absent other = other
+unfoldable pub or_else : Option ℕ → ℕ → ℕ
+or_else (Some n) other = n
+or_else None other = other
 
 -- n is a multiple of m
 unfoldable pub multiple : ℕ → ℕ → Bool

@@ -4,6 +4,8 @@ ghost use Rattle.std.specs.Prelude.{◌≡◌, ◌+◌, ◌<◌, ◌≤◌, ◌^
 ghost use Rattle.measures.specs.Measure.{or_else, multiple, in_blocks, lesser_of, divided_by, round_up, physical_size, is_empty};
 ghost use Rattle.measures.specs.Laws.{EveryBlockSize};
 
+use std::marker::Model;
+
 // Texels along one side.
 #[derive(Clone, Copy)]
 pub struct Texels(pub u32);
@@ -12,13 +14,48 @@ pub struct Texels(pub u32);
 #[derive(Clone, Copy)]
 pub struct Blocks(pub u32);
 
+// A side of a block: at least one texel. Contracts see its texels.
+#[derive(Clone, Copy)]
+pub struct BlockSide {
+    size: Texels,
+}
+
+impl Model for BlockSide {
+    ghost use Rattle.std.specs.Prelude.{◌<◌};
+    ghost use Rattle.measures.specs.declared.Texels.{Texels};
+
+    ghost Value = { Texels };
+
+    ghost view = { λ s. s.size };
+
+    ghost invariant = { λ s. 0 < s.size.0 };
+
+    ghost inverse = { λ n. record { size = n } };
+}
+
+impl BlockSide {
+    pub fn new(size: Texels) -> BlockSide
+        requires { 0 < size.0 }
+        ensures { result ≡ size }
+    {
+        BlockSide { size }
+    }
+
+    // How many texels that is.
+    fn count(self) -> u32
+        ensures value { result ≡ self.0 }
+        ensures some { 0 < result }
+    {
+        self.size.0
+    }
+}
+
 impl Texels {
     // How many blocks of a side hold these.
-    pub fn in_blocks(self, side: Texels) -> Blocks
-        requires { 0 < side.0 }
+    pub fn in_blocks(self, side: BlockSide) -> Blocks
         ensures { result ≡ in_blocks self side }
     {
-        let size = side.0;
+        let size = side.count();
         // nearly every block is one texel, and a division takes long
         if size == 1 {
             return Blocks(self.0);
@@ -32,11 +69,10 @@ impl Texels {
     }
 
     // Whether these are whole blocks of a side.
-    pub fn is_multiple_of(self, side: Texels) -> bool
-        requires { 0 < side.0 }
+    pub fn is_multiple_of(self, side: BlockSide) -> bool
         ensures { result ≡ multiple self.0 side.0 }
     {
-        let size = side.0;
+        let size = side.count();
         if size == 1 {
             return true;
         }
@@ -60,11 +96,11 @@ impl Texels {
     }
 
     // These rounded up to whole blocks of a side.
-    fn rounded_up(self, side: Texels) -> Texels
-        requires { (0 < side.0) × (self.0 + side.0 ≤ 2 ^ 32) }
+    fn rounded_up(self, side: BlockSide) -> Texels
+        requires { self.0 + side.0 ≤ 2 ^ 32 }
         ensures { result ≡ round_up self side }
     {
-        let size = side.0;
+        let size = side.count();
         if size == 1 {
             return self;
         }
@@ -90,21 +126,8 @@ pub struct Origin3d {
 // The sides of a block.
 #[derive(Clone, Copy)]
 pub struct BlockDimensions {
-    pub width: Texels,
-    pub height: Texels,
-}
-
-// A number that a copy may leave out.
-#[derive(Clone, Copy)]
-pub enum OptionU32 {
-    Given(u32),
-    Absent,
-}
-
-#[derive(Clone, Copy)]
-pub enum OptionU64 {
-    Given(u64),
-    Absent,
+    pub width: BlockSide,
+    pub height: BlockSide,
 }
 
 // From start up to, not including, end. One whose end lies below its start runs backward and holds nothing.
@@ -116,22 +139,22 @@ pub struct Range {
 
 // A value, or another where it is absent.
 #[tactic(auto, unfolding(crate::specs::Measure::or_else))]
-pub fn or_else(value: OptionU32, other: u64) -> u64
+pub fn or_else(value: Option<u32>, other: u64) -> u64
     ensures { result ≡ or_else value other }
 {
     match value {
-        OptionU32::Given(n) => n as u64,
-        OptionU32::Absent => other,
+        Some(n) => n as u64,
+        None => other,
     }
 }
 
 // Width and height rounded up to whole blocks.
 pub fn physical_size(e: Extent3d, block: BlockDimensions) -> Extent3d
-    requires { (0 < block.width.0) × (e.width.0 + block.width.0 ≤ 2 ^ 32) × (0 < block.height.0) × (e.height.0 + block.height.0 ≤ 2 ^ 32) }
+    requires { (e.width.0 + block.width.0 ≤ 2 ^ 32) × (e.height.0 + block.height.0 ≤ 2 ^ 32) }
     ensures { result ≡ physical_size e block }
 {
-    let width = Texels(e.width.0).rounded_up(Texels(block.width.0));
-    let height = Texels(e.height.0).rounded_up(Texels(block.height.0));
+    let width = e.width.rounded_up(block.width);
+    let height = e.height.rounded_up(block.height);
     Extent3d {
         width,
         height,

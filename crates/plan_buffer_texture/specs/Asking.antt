@@ -1,10 +1,9 @@
 -- Asking a plan for its next region.
-use Rattle.std.specs.Prelude.{ℕ, ◌+◌, ◌-◌, ◌%◌, ◌^◌, ◌==◌}
+use Rattle.std.specs.Prelude.{ℕ, ◌+◌, ◌-◌, ◌%◌, ◌^◌, ◌==◌, Some, None}
 use Rattle.conditions.specs.Conditions.{stop_if, ◌$◌}
 use Rattle.rule_selectors.specs.Selector.{next_layer}
 use Rattle.plan_buffer_texture.specs.declared.BufferTextureCopy.{BufferTextureCopy}
 use Rattle.plan_buffer_texture.specs.declared.BufferTexturePlan.{BufferTexturePlan}
-use Rattle.plan_buffer_texture.specs.declared.NextBufferTextureCopy.TheVariants.{Region, NoneLeft}
 use Rattle.plan_buffer_texture.specs.declared.AskedBufferTexture.{AskedBufferTexture}
 
 -- one stride and one layer on. The sums wrap; those of an accepted copy's regions never do.
@@ -31,5 +30,5 @@ advanced p =
 -- none left, and the plan unchanged; else its region beside the advanced plan
 unfoldable pub next_of : BufferTexturePlan → AskedBufferTexture
 next_of p =
-    stop_if (p.left == 0) (record { answer = NoneLeft; plan = p }) $
-    record { answer = Region p.region; plan = advanced p }
+    stop_if (p.left == 0) (record { answer = None; plan = p }) $
+    record { answer = Some p.region; plan = advanced p }

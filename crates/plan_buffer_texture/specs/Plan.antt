@@ -1,5 +1,5 @@
 -- The plan of a copy between a buffer, or memory, and a texture.
-use Rattle.std.specs.Prelude.{ℕ, Bool}
+use Rattle.std.specs.Prelude.{ℕ, Bool, Option, Some, None}
 use Rattle.conditions.specs.Conditions.{pick}
 use Rattle.measures.specs.declared.Extent3d.{Extent3d}
 use Rattle.measures.specs.Measure.{is_empty}
@@ -10,8 +10,6 @@ use Rattle.rule_selectors.specs.declared.TextureCopyBase.{TextureCopyBase}
 use Rattle.rule_init_ranges.specs.declared.TextureInitRange.{TextureInitRange}
 use Rattle.rule_init_ranges.specs.declared.BufferInitRanges.{BufferInitRanges}
 use Rattle.plan_buffer_texture.specs.declared.BufferTextureCopy.{BufferTextureCopy}
-use Rattle.plan_buffer_texture.specs.declared.CopyRanges.{CopyRanges}
-use Rattle.plan_buffer_texture.specs.declared.CopyRanges.TheVariants as N
 use Rattle.plan_buffer_texture.specs.declared.BufferTexturePlan.{BufferTexturePlan}
 
 unfoldable pub first_region : TexelCopyBufferLayout → TextureCopyBase → CopyExtent → BufferTextureCopy
@@ -25,8 +23,8 @@ first_region layout base extent =
     }
 
 -- the texture's range, then the buffer's, of which memory has none; none at all where the copy is empty
-unfoldable pub ranges_of : Bool → TextureInitRange → BufferInitRanges → CopyRanges
-ranges_of empty texture buffer = pick empty N.Absent (N.Given texture buffer)
+unfoldable pub ranges_of : Bool → TextureInitRange → BufferInitRanges → Option (TextureInitRange × BufferInitRanges)
+ranges_of empty texture buffer = pick empty None (Some (texture, buffer))
 
 -- a region for each layer, each an image stride on; none where the copy is empty
 unfoldable pub plan_of : TexelCopyBufferLayout → Extent3d → CopyExtent → ℕ → TextureCopyBase → LinearData → TextureInitRange → BufferInitRanges → BufferTexturePlan

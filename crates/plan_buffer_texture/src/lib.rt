@@ -5,7 +5,7 @@ ghost use Rattle.conditions.specs.Conditions.{pick};
 ghost use Rattle.plan_buffer_texture.specs.Plan.{first_region, ranges_of, plan_of};
 ghost use Rattle.plan_buffer_texture.specs.Asking.{moved, advanced, next_of};
 
-use measures::{Extent3d, OptionU32};
+use measures::Extent3d;
 use records::TexelCopyBufferLayout;
 use rule_copy_range::CopyExtent;
 use rule_init_ranges::{BufferInitRanges, TextureInitRange};
@@ -16,24 +16,26 @@ use rule_selectors::TextureCopyBase;
 #[derive(Clone, Copy)]
 pub struct BufferTextureCopy {
     pub offset: u64,
-    pub bytes_per_row: OptionU32,
-    pub rows_per_image: OptionU32,
+    pub bytes_per_row: Option<u32>,
+    pub rows_per_image: Option<u32>,
     pub base: TextureCopyBase,
     pub size: CopyExtent,
 }
 
-// The texture's range, then the buffer's; of a copy from memory all of these are absent.
+// What is copied of the texture: the size of a region, the number of layers, and where the first region starts.
 #[derive(Clone, Copy)]
-pub enum CopyRanges {
-    Given(TextureInitRange, BufferInitRanges),
-    Absent,
+pub struct TexturePart {
+    pub extent: CopyExtent,
+    pub layers: u32,
+    pub base: TextureCopyBase,
 }
 
-// The ranges, the next region, the bytes from one to the next, how many are left, and the bytes checked. The ranges come first: in an
-// answer a refusal lies in the same place, and the compiler then takes the region apart at less cost.
+// The ranges (the texture's, then the buffer's, which of a copy from memory are absent), the next region, the bytes from one to the next,
+// how many are left, and the bytes checked. The ranges come first: in an answer a refusal lies in the same place, and the compiler then
+// takes the region apart at less cost.
 #[derive(Clone, Copy)]
 pub struct BufferTexturePlan {
-    pub ranges: CopyRanges,
+    pub ranges: Option<(TextureInitRange, BufferInitRanges)>,
     pub region: BufferTextureCopy,
     pub stride: u64,
     pub left: u32,
@@ -41,14 +43,8 @@ pub struct BufferTexturePlan {
 }
 
 #[derive(Clone, Copy)]
-pub enum NextBufferTextureCopy {
-    Region(BufferTextureCopy),
-    NoneLeft,
-}
-
-#[derive(Clone, Copy)]
 pub struct AskedBufferTexture {
-    pub answer: NextBufferTextureCopy,
+    pub answer: Option<BufferTextureCopy>,
     pub plan: BufferTexturePlan,
 }
 
@@ -60,25 +56,27 @@ fn first_region(
 ) -> BufferTextureCopy
     ensures { result ≡ first_region layout base extent }
 {
-    let bytes_per_row = layout.bytes_per_row;
-    let rows_per_image = layout.rows_per_image;
     BufferTextureCopy {
         offset: layout.offset,
-        bytes_per_row,
-        rows_per_image,
+        bytes_per_row: layout.bytes_per_row,
+        rows_per_image: layout.rows_per_image,
         base,
         size: extent,
     }
 }
 
 #[tactic(auto, unfolding(crate::specs::Plan::ranges_of))]
-fn ranges_of(empty: bool, texture: TextureInitRange, buffer: BufferInitRanges) -> CopyRanges
+fn ranges_of(
+    empty: bool,
+    texture: TextureInitRange,
+    buffer: BufferInitRanges,
+) -> Option<(TextureInitRange, BufferInitRanges)>
     ensures { result ≡ ranges_of empty texture buffer }
 {
     if empty {
-        return CopyRanges::Absent;
+        return None;
     }
-    CopyRanges::Given(texture, buffer)
+    Some((texture, buffer))
 }
 
 fn count_of(empty: bool, layers: u32) -> u32
@@ -94,18 +92,16 @@ fn count_of(empty: bool, layers: u32) -> u32
 pub fn plan_of(
     layout: TexelCopyBufferLayout,
     size: Extent3d,
-    extent: CopyExtent,
-    layers: u32,
-    base: TextureCopyBase,
+    part: TexturePart,
     info: LinearData,
     texture: TextureInitRange,
     buffer: BufferInitRanges,
 ) -> BufferTexturePlan
-    ensures { result ≡ plan_of layout size extent layers base info texture buffer }
+    ensures { result ≡ plan_of layout size part.extent part.layers part.base info texture buffer }
 {
     let empty = measures::is_empty(size);
-    let region = first_region(layout, base, extent);
-    let left = count_of(empty, layers);
+    let region = first_region(layout, part.base, part.extent);
+    let left = count_of(empty, part.layers);
     let ranges = ranges_of(empty, texture, buffer);
     BufferTexturePlan {
         region,
@@ -121,17 +117,10 @@ impl BufferTextureCopy {
     fn moved(self, stride: u64) -> BufferTextureCopy
         ensures { result ≡ moved self stride }
     {
-        let bytes_per_row = self.bytes_per_row;
-        let rows_per_image = self.rows_per_image;
-        let base = self.base;
-        let size = self.size;
-        let on = rule_selectors::next_layer(base);
         BufferTextureCopy {
-            offset: std::num::wrapping_add_u64(self.offset, stride),
-            bytes_per_row,
-            rows_per_image,
-            base: on,
-            size,
+            offset: self.offset.wrapping_add(stride),
+            base: rule_selectors::next_layer(self.base),
+            ..self
         }
     }
 }
@@ -142,15 +131,10 @@ impl BufferTexturePlan {
         requires { 0 < self.left }
         ensures { result ≡ advanced self }
     {
-        let region = self.region;
-        let ranges = self.ranges;
-        let on = region.moved(self.stride);
         BufferTexturePlan {
-            region: on,
-            stride: self.stride,
+            region: self.region.moved(self.stride),
             left: self.left - 1,
-            ranges,
-            bytes_checked: self.bytes_checked,
+            ..self
         }
     }
 
@@ -160,15 +144,13 @@ impl BufferTexturePlan {
     {
         if self.left == 0 {
             return AskedBufferTexture {
-                answer: NextBufferTextureCopy::NoneLeft,
+                answer: None,
                 plan: self,
             };
         }
-        let region = self.region;
-        let plan = self.advance();
         AskedBufferTexture {
-            answer: NextBufferTextureCopy::Region(region),
-            plan,
+            answer: Some(self.region),
+            plan: self.advance(),
         }
     }
 }

@@ -1,8 +1,7 @@
 -- Asking a plan of a copy between buffers for its next region.
-use Rattle.std.specs.Prelude.{◌-◌, eqb}
+use Rattle.std.specs.Prelude.{◌-◌, eqb, Some, None}
 use Rattle.conditions.specs.Conditions.{stop_if, ◌$◌}
 use Rattle.plan_buffers.specs.declared.BufferPlan.{BufferPlan}
-use Rattle.plan_buffers.specs.declared.NextBufferCopy.TheVariants.{Region, NoneLeft}
 use Rattle.plan_buffers.specs.declared.AskedBuffer.{AskedBuffer}
 
 -- the plan with one region fewer
@@ -19,5 +18,5 @@ advanced p =
 -- none left, and the plan unchanged; else its region beside the advanced plan
 unfoldable pub next_of : BufferPlan → AskedBuffer
 next_of p =
-    stop_if (eqb p.left 0) (record { answer = NoneLeft; plan = p }) $
-    record { answer = Region p.region; plan = advanced p }
+    stop_if (eqb p.left 0) (record { answer = None; plan = p }) $
+    record { answer = Some p.region; plan = advanced p }

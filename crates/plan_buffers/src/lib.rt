@@ -6,7 +6,7 @@ ghost use Rattle.rule_init_ranges.specs.Init.{buffer_range, unless};
 ghost use Rattle.plan_buffers.specs.Plan.{plan_of};
 ghost use Rattle.plan_buffers.specs.Asking.{advanced, next_of};
 
-use rule_init_ranges::{BufferInitRange, MemoryInitKind, OptionRange};
+use rule_init_ranges::{BufferInitRange, MemoryInitKind};
 
 // A region: what the encoder is handed.
 #[derive(Clone, Copy)]
@@ -20,33 +20,27 @@ pub struct BufferCopy {
 // the same place, and the compiler then takes the region apart at less cost.
 #[derive(Clone, Copy)]
 pub struct BufferPlan {
-    pub dst_range: OptionRange,
-    pub src_range: OptionRange,
+    pub dst_range: Option<BufferInitRange>,
+    pub src_range: Option<BufferInitRange>,
     pub region: BufferCopy,
     pub left: u32,
     pub bytes_checked: u64,
 }
 
 #[derive(Clone, Copy)]
-pub enum NextBufferCopy {
-    Region(BufferCopy),
-    NoneLeft,
-}
-
-#[derive(Clone, Copy)]
 pub struct AskedBuffer {
-    pub answer: NextBufferCopy,
+    pub answer: Option<BufferCopy>,
     pub plan: BufferPlan,
 }
 
-fn range_of(empty: bool, start: u64, size: u64, kind: MemoryInitKind) -> OptionRange
+fn range_of(empty: bool, start: u64, size: u64, kind: MemoryInitKind) -> Option<BufferInitRange>
     requires { start + size < 2 ^ 64 }
     ensures { result ≡ unless empty (buffer_range start (start + size) kind) }
 {
     if empty {
-        return OptionRange::Absent;
+        return None;
     }
-    OptionRange::Given(BufferInitRange {
+    Some(BufferInitRange {
         start,
         end: start + size,
         kind,
@@ -101,15 +95,9 @@ impl BufferPlan {
         requires { 0 < self.left }
         ensures { result ≡ advanced self }
     {
-        let region = self.region;
-        let dst_range = self.dst_range;
-        let src_range = self.src_range;
         BufferPlan {
-            region,
             left: self.left - 1,
-            dst_range,
-            src_range,
-            bytes_checked: self.bytes_checked,
+            ..self
         }
     }
 
@@ -119,15 +107,13 @@ impl BufferPlan {
     {
         if self.left == 0 {
             return AskedBuffer {
-                answer: NextBufferCopy::NoneLeft,
+                answer: None,
                 plan: self,
             };
         }
-        let region = self.region;
-        let plan = self.advance();
         AskedBuffer {
-            answer: NextBufferCopy::Region(region),
-            plan,
+            answer: Some(self.region),
+            plan: self.advance(),
         }
     }
 }

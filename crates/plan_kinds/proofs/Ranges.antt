@@ -1,5 +1,6 @@
 -- A plan's regions do not rest on its ranges.
 -- Assumes nothing.
+use Rattle.std.specs.Prelude.{Option}
 use mathlib.Core.Path.{◌≡◌, refl}
 use mathlib.Core.Bool.{Bool, true, false}
 use lib.Dec.{eqb}
@@ -8,11 +9,11 @@ use Rattle.plan_textures.specs.Asking as X
 use Rattle.plan_textures.specs.declared.CopyParts.{CopyParts}
 use Rattle.plan_textures.specs.declared.CopyParts.TheVariants.{Whole, DepthStencil, Planes}
 use Rattle.plan_textures.specs.declared.TexturePlan.{TexturePlan}
-use Rattle.plan_textures.specs.declared.TextureRanges.{TextureRanges}
 use Rattle.plan_kinds.specs.declared.Plan.TheVariants.{Textures}
 use Rattle.plan_kinds.specs.Regions.{region_numbers, behind_of, textures_with}
+use Rattle.rule_init_ranges.specs.declared.TextureInitRange.{TextureInitRange}
 
-module _ (ranges : TextureRanges) where
+module _ (ranges : Option (TextureInitRange × TextureInitRange)) where
   region_with : (parts : CopyParts) (p : TexturePlan) → X.region_of parts (textures_with ranges p) ≡ X.region_of parts p
   unfolding X.region_of X.region_as
   region_with Whole p = refl

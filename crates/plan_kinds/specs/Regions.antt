@@ -1,20 +1,17 @@
 -- The regions of a plan of any kind, as rows of numbers.
-use Rattle.std.specs.Prelude.{ℕ, zero, suc, List, [], ◌∷◌}
-use Rattle.plan_buffers.specs.declared.NextBufferCopy.{NextBufferCopy}
-use Rattle.plan_buffers.specs.declared.NextBufferCopy.TheVariants as B
+use Rattle.std.specs.Prelude.{ℕ, zero, suc, List, [], ◌∷◌, Option, Some, None}
 use Rattle.plan_buffers.specs.Asking as K
-use Rattle.plan_buffer_texture.specs.declared.NextBufferTextureCopy.{NextBufferTextureCopy}
-use Rattle.plan_buffer_texture.specs.declared.NextBufferTextureCopy.TheVariants as U
 use Rattle.plan_buffer_texture.specs.Asking as L
-use Rattle.plan_textures.specs.declared.NextTextureCopy.{NextTextureCopy}
-use Rattle.plan_textures.specs.declared.NextTextureCopy.TheVariants as T
 use Rattle.plan_textures.specs.declared.TexturePlan.{TexturePlan}
-use Rattle.plan_textures.specs.declared.TextureRanges.{TextureRanges}
 use Rattle.plan_textures.specs.Asking as X
 use Rattle.plan_rows.specs.Rows.{row_of, buffer_copy_numbers, buffer_texture_copy_numbers, texture_copy_numbers}
 use Rattle.plan_kinds.specs.declared.Plan.{Plan}
 use Rattle.plan_kinds.specs.declared.Plan.TheVariants.{Buffers, BufferTexture, Textures}
 use Rattle.plan_kinds.specs.declared.AskedRow.{AskedRow}
+use Rattle.plan_buffer_texture.specs.declared.BufferTextureCopy.{BufferTextureCopy}
+use Rattle.plan_buffers.specs.declared.BufferCopy.{BufferCopy}
+use Rattle.plan_textures.specs.declared.TextureCopy.{TextureCopy}
+use Rattle.rule_init_ranges.specs.declared.TextureInitRange.{TextureInitRange}
 
 -- how many regions are left
 unfoldable pub left_of : Plan → ℕ
@@ -36,17 +33,17 @@ checked_bytes_of (Textures p) = 0
 
 -- ---- the next region's numbers, of which there are none past the last, and the plan after it
 
-unfoldable pub buffer_numbers : NextBufferCopy → List ℕ
-buffer_numbers (B.Region r) = buffer_copy_numbers r
-buffer_numbers B.NoneLeft = []
+unfoldable pub buffer_numbers : Option BufferCopy → List ℕ
+buffer_numbers (Some r) = buffer_copy_numbers r
+buffer_numbers None = []
 
-unfoldable pub buffer_texture_numbers : NextBufferTextureCopy → List ℕ
-buffer_texture_numbers (U.Region r) = buffer_texture_copy_numbers r
-buffer_texture_numbers U.NoneLeft = []
+unfoldable pub buffer_texture_numbers : Option BufferTextureCopy → List ℕ
+buffer_texture_numbers (Some r) = buffer_texture_copy_numbers r
+buffer_texture_numbers None = []
 
-unfoldable pub texture_numbers : NextTextureCopy → List ℕ
-texture_numbers (T.Region r) = texture_copy_numbers r
-texture_numbers T.NoneLeft = []
+unfoldable pub texture_numbers : Option TextureCopy → List ℕ
+texture_numbers (Some r) = texture_copy_numbers r
+texture_numbers None = []
 
 unfoldable pub region_numbers : Plan → List ℕ
 region_numbers (Buffers p) = buffer_numbers (K.next_of p).answer
@@ -72,6 +69,6 @@ regions_left p = regions_from (left_of p) p
 
 -- ---- a plan with other ranges, which its regions do not rest on
 
-abbrev pub textures_with : TextureRanges → TexturePlan → TexturePlan
+abbrev pub textures_with : Option (TextureInitRange × TextureInitRange) → TexturePlan → TexturePlan
 textures_with ranges p =
     record { src = p.src; dst = p.dst; size = p.size; parts = p.parts; part = p.part; left = p.left; ranges = ranges }

@@ -4,10 +4,10 @@ ghost use Rattle.std.specs.Prelude.{◌≡◌, []};
 ghost use Rattle.plan_rows.specs.Rows.{row_of};
 ghost use Rattle.plan_kinds.specs.Regions.{left_of, checked_bytes_of, buffer_numbers, buffer_texture_numbers, texture_numbers, next_of};
 
-use plan_buffer_texture::{BufferTexturePlan, NextBufferTextureCopy};
-use plan_buffers::{BufferPlan, NextBufferCopy};
+use plan_buffer_texture::{BufferTextureCopy, BufferTexturePlan};
+use plan_buffers::{BufferCopy, BufferPlan};
 use plan_rows::Row;
-use plan_textures::{NextTextureCopy, TexturePlan};
+use plan_textures::{TextureCopy, TexturePlan};
 
 #[derive(Clone, Copy)]
 pub enum Plan {
@@ -33,30 +33,30 @@ fn no_row() -> Row
     }
 }
 
-pub fn buffer_row(answer: NextBufferCopy) -> Row
+pub fn buffer_row(answer: Option<BufferCopy>) -> Row
     ensures { result ≡ row_of (buffer_numbers answer) }
 {
     match answer {
-        NextBufferCopy::Region(region) => plan_rows::buffer_copy_row(region),
-        NextBufferCopy::NoneLeft => no_row(),
+        Some(region) => plan_rows::buffer_copy_row(region),
+        None => no_row(),
     }
 }
 
-pub fn buffer_texture_row(answer: NextBufferTextureCopy) -> Row
+pub fn buffer_texture_row(answer: Option<BufferTextureCopy>) -> Row
     ensures { result ≡ row_of (buffer_texture_numbers answer) }
 {
     match answer {
-        NextBufferTextureCopy::Region(region) => plan_rows::buffer_texture_copy_row(region),
-        NextBufferTextureCopy::NoneLeft => no_row(),
+        Some(region) => plan_rows::buffer_texture_copy_row(region),
+        None => no_row(),
     }
 }
 
-pub fn texture_row(answer: NextTextureCopy) -> Row
+pub fn texture_row(answer: Option<TextureCopy>) -> Row
     ensures { result ≡ row_of (texture_numbers answer) }
 {
     match answer {
-        NextTextureCopy::Region(region) => plan_rows::texture_copy_row(region),
-        NextTextureCopy::NoneLeft => no_row(),
+        Some(region) => plan_rows::texture_copy_row(region),
+        None => no_row(),
     }
 }
 

@@ -1,8 +1,6 @@
 -- Regions, ranges and refusals as numbers: 3, 12 or 15 for a region, 5 or 4 for a range, 6 for a refusal.
-use Rattle.std.specs.Prelude.{ℕ, ◌-◌, ◌^◌, List, [], ◌∷◌, ◌++◌, length, replicate}
+use Rattle.std.specs.Prelude.{ℕ, ◌-◌, ◌^◌, List, [], ◌∷◌, ◌++◌, length, replicate, Option, Some, None}
 use Rattle.std.proofs.lemmas.List.Edits.{sets}
-use Rattle.measures.specs.declared.OptionU32.{OptionU32}
-use Rattle.measures.specs.declared.OptionU32.TheVariants.{Given, Absent}
 use Rattle.refusals.specs.declared.TransferError.{TransferError}
 use Rattle.refusals.specs.Numbers.{numbers_of}
 use Rattle.rule_copy_range.specs.declared.CopyExtent.{CopyExtent}
@@ -18,9 +16,9 @@ use Rattle.plan_rows.specs.declared.Row.{Row}
 -- ---- regions
 
 -- an absent value is the last number of 64 bits
-unfoldable pub or_absent : OptionU32 → ℕ
-or_absent (Given n) = n
-or_absent Absent = 2 ^ 64 - 1
+unfoldable pub or_absent : Option ℕ → ℕ
+or_absent (Some n) = n
+or_absent None = 2 ^ 64 - 1
 
 -- two offsets, size
 unfoldable pub buffer_copy_numbers : BufferCopy → List ℕ

@@ -3,11 +3,10 @@
 ghost use Rattle.std.specs.Prelude.{◌≡◌};
 ghost use Rattle.plan_rows.specs.Rows.{or_absent, row_of, buffer_copy_numbers, buffer_texture_copy_numbers, texture_copy_numbers, texture_range_numbers, buffer_range_numbers, refusal_numbers};
 
-use measures::OptionU32;
 use plan_buffer_texture::BufferTextureCopy;
 use plan_buffers::BufferCopy;
 use plan_textures::TextureCopy;
-use refusals::TransferError;
+use refusals::{Refusal, TransferError};
 use rule_init_ranges::{BufferInitRange, TextureInitRange};
 
 // What stands for an absent value.
@@ -22,12 +21,12 @@ pub struct Row {
 
 // A value, or what stands for an absent one.
 #[tactic(auto, unfolding(crate::specs::Rows::or_absent))]
-pub fn or_absent(value: OptionU32) -> u64
+pub fn or_absent(value: Option<u32>) -> u64
     ensures { result ≡ or_absent value }
 {
     match value {
-        OptionU32::Given(n) => n as u64,
-        OptionU32::Absent => ABSENT,
+        Some(n) => n as u64,
+        None => ABSENT,
     }
 }
 
@@ -130,7 +129,7 @@ pub fn texture_range_row(texture: u32, r: TextureInitRange) -> Row
 {
     let layers = r.layers;
     let kind = r.kind;
-    let number = rule_init_ranges::kind_number(kind);
+    let number = u32::from(kind);
     Row {
         count: 5,
         values: [
@@ -158,7 +157,7 @@ pub fn buffer_range_row(buffer: u32, r: BufferInitRange) -> Row
     ensures { result ≡ row_of (buffer_range_numbers buffer r) }
 {
     let kind = r.kind;
-    let number = rule_init_ranges::kind_number(kind);
+    let number = u32::from(kind);
     Row {
         count: 4,
         values: [
@@ -185,7 +184,7 @@ pub fn buffer_range_row(buffer: u32, r: BufferInitRange) -> Row
 pub fn refusal_row(why: TransferError) -> Row
     ensures { result ≡ row_of (refusal_numbers why) }
 {
-    let n = refusals::numbers_of(why);
+    let n = Refusal::from(why);
     Row {
         count: 6,
         values: [

@@ -1,5 +1,6 @@
 -- Parts of a plan, one by one.
 -- Assumes nothing.
+use Rattle.std.specs.Prelude.{Option}
 use mathlib.Core.Path.{◌≡◌}
 use mathlib.Core.Bool.{Bool}
 use Prim.Native.Nat.{ℕ, ◌*◌, ◌^◌, ◌≤◌, ◌<◌}
@@ -9,13 +10,13 @@ use Rattle.conditions.specs.Conditions.{pick}
 use Rattle.rule_copy_range.specs.declared.CopyExtent.{CopyExtent}
 use Rattle.rule_selectors.specs.declared.TextureCopyBase.{TextureCopyBase}
 use Rattle.plan_textures.specs.declared.CopyParts.{CopyParts}
-use Rattle.plan_textures.specs.declared.TextureRanges.{TextureRanges}
 use Rattle.plan_textures.specs.declared.TexturePlan.{TexturePlan}
 use Rattle.plan_textures.specs.Plan.{part_count}
+use Rattle.rule_init_ranges.specs.declared.TextureInitRange.{TextureInitRange}
 
 -- a plan by its parts
 pub built :
-    (a b : TextureCopyBase) {e e' : CopyExtent} {p p' : CopyParts} {n n' : ℕ} {g g' : TextureRanges} (k : ℕ) → e ≡ e' → p ≡ p' → n ≡ n' → g ≡ g'
+    (a b : TextureCopyBase) {e e' : CopyExtent} {p p' : CopyParts} {n n' : ℕ} {g g' : Option (TextureInitRange × TextureInitRange)} (k : ℕ) → e ≡ e' → p ≡ p' → n ≡ n' → g ≡ g'
     → ◌≡◌ {A = TexturePlan}
     (record { src = a; dst = b; size = e; parts = p; part = k; left = n; ranges = g })
     (record { src = a; dst = b; size = e'; parts = p'; part = k; left = n'; ranges = g' })

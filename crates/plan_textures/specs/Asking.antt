@@ -1,5 +1,5 @@
 -- Asking a plan of a copy between textures for its next region.
-use Rattle.std.specs.Prelude.{ℕ, ◌-◌, eqb}
+use Rattle.std.specs.Prelude.{ℕ, ◌-◌, eqb, Some, None}
 use Rattle.conditions.specs.Conditions.{pick, stop_if, ◌$◌}
 use Rattle.measures.specs.Measure.{divided_by}
 use Rattle.flags.specs.FormatAspects.{DEPTH, STENCIL, PLANE_0, PLANE_1}
@@ -10,7 +10,6 @@ use Rattle.plan_textures.specs.declared.CopyParts.{CopyParts}
 use Rattle.plan_textures.specs.declared.CopyParts.TheVariants.{Whole, DepthStencil, Planes}
 use Rattle.plan_textures.specs.declared.TextureCopy.{TextureCopy}
 use Rattle.plan_textures.specs.declared.TexturePlan.{TexturePlan}
-use Rattle.plan_textures.specs.declared.NextTextureCopy.TheVariants.{Region, NoneLeft}
 use Rattle.plan_textures.specs.declared.AskedTexture.{AskedTexture}
 
 -- a base with other aspects, and with x and y divided
@@ -55,5 +54,5 @@ advanced Planes p = pick (eqb p.part 0) (other_part p) (other_layer p)
 -- none left, and the plan unchanged; else its region beside the advanced plan
 unfoldable pub next_of : TexturePlan → AskedTexture
 next_of p =
-    stop_if (eqb p.left 0) (record { answer = NoneLeft; plan = p }) $
-    record { answer = Region (region_of p.parts p); plan = advanced p.parts p }
+    stop_if (eqb p.left 0) (record { answer = None; plan = p }) $
+    record { answer = Some (region_of p.parts p); plan = advanced p.parts p }

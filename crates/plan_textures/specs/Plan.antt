@@ -1,5 +1,5 @@
 -- The plan of a copy between textures.
-use Rattle.std.specs.Prelude.{ℕ, ◌*◌, min, Bool}
+use Rattle.std.specs.Prelude.{ℕ, ◌*◌, min, Bool, Option, Some, None}
 use Rattle.conditions.specs.Conditions.{pick, stop_if, ◌$◌}
 use Rattle.measures.specs.declared.Extent3d.{Extent3d}
 use Rattle.formats.specs.Table.{is_combined_depth_stencil, is_multi_planar}
@@ -11,8 +11,6 @@ use Rattle.measures.specs.Measure.{lesser_of, is_empty}
 use Rattle.records.specs.declared.TextureSide.{TextureSide}
 use Rattle.plan_textures.specs.declared.CopyParts.{CopyParts}
 use Rattle.plan_textures.specs.declared.CopyParts.TheVariants.{Whole, DepthStencil, Planes}
-use Rattle.plan_textures.specs.declared.TextureRanges.{TextureRanges}
-use Rattle.plan_textures.specs.declared.TextureRanges.TheVariants as N
 use Rattle.plan_textures.specs.declared.TexturePlan.{TexturePlan}
 
 -- each size is the lesser of both sides
@@ -32,8 +30,8 @@ part_count DepthStencil = 2
 part_count Planes = 2
 
 -- the source's range, then the destination's; none where the copy is empty
-unfoldable pub ranges_of : Bool → TextureInitRange → TextureInitRange → TextureRanges
-ranges_of empty src dst = pick empty N.Absent (N.Given src dst)
+unfoldable pub ranges_of : Bool → TextureInitRange → TextureInitRange → Option (TextureInitRange × TextureInitRange)
+ranges_of empty src dst = pick empty None (Some (src, dst))
 
 -- a region for each part of each source layer; none where the copy is empty
 unfoldable pub plan_of : TextureSide → TextureSide → Extent3d → CopyExtent → CopyExtent → ℕ → TextureCopyBase → TextureCopyBase → TexturePlan

@@ -23,13 +23,6 @@ pub enum CopyParts {
     Planes,
 }
 
-// The source's range, then the destination's.
-#[derive(Clone, Copy)]
-pub enum TextureRanges {
-    Given(TextureInitRange, TextureInitRange),
-    Absent,
-}
-
 // A region: what the encoder is handed.
 #[derive(Clone, Copy)]
 pub struct TextureCopy {
@@ -38,11 +31,11 @@ pub struct TextureCopy {
     pub size: CopyExtent,
 }
 
-// The ranges, where the next region starts on both sides, its size, the next part of the layer, how many regions are left, and the parts
-// of a layer. The ranges come first as in a plan of a copy with a buffer.
+// The ranges (the source's, then the destination's), where the next region starts on both sides, its size, the next part of the layer, how
+// many regions are left, and the parts of a layer. The ranges come first as in a plan of a copy with a buffer.
 #[derive(Clone, Copy)]
 pub struct TexturePlan {
-    pub ranges: TextureRanges,
+    pub ranges: Option<(TextureInitRange, TextureInitRange)>,
     pub src: TextureCopyBase,
     pub dst: TextureCopyBase,
     pub size: CopyExtent,
@@ -52,37 +45,19 @@ pub struct TexturePlan {
 }
 
 #[derive(Clone, Copy)]
-pub enum NextTextureCopy {
-    Region(TextureCopy),
-    NoneLeft,
-}
-
-#[derive(Clone, Copy)]
 pub struct AskedTexture {
-    pub answer: NextTextureCopy,
+    pub answer: Option<TextureCopy>,
     pub plan: TexturePlan,
-}
-
-fn least(a: u32, b: u32) -> u32
-    ensures { result ≡ min a b }
-{
-    if a < b { a } else { b }
 }
 
 #[tactic(auto, unfolding(crate::specs::Plan::lesser))]
 fn lesser_of(a: CopyExtent, b: CopyExtent) -> CopyExtent
     ensures { result ≡ lesser a b }
 {
-    let a_width = a.width;
-    let b_width = b.width;
-    let a_height = a.height;
-    let b_height = b.height;
-    let width = a_width.min(b_width);
-    let height = a_height.min(b_height);
     CopyExtent {
-        width,
-        height,
-        depth: least(a.depth, b.depth),
+        width: a.width.min(b.width),
+        height: a.height.min(b.height),
+        depth: a.depth.min(b.depth),
     }
 }
 
@@ -121,26 +96,30 @@ fn region_count(empty: bool, layers: u32, parts: CopyParts) -> u32
 }
 
 #[tactic(auto, unfolding(crate::specs::Plan::ranges_of))]
-fn ranges_of(empty: bool, src: TextureInitRange, dst: TextureInitRange) -> TextureRanges
+fn ranges_of(
+    empty: bool,
+    src: TextureInitRange,
+    dst: TextureInitRange,
+) -> Option<(TextureInitRange, TextureInitRange)>
     ensures { result ≡ ranges_of empty src dst }
 {
     if empty {
-        return TextureRanges::Absent;
+        return None;
     }
-    TextureRanges::Given(src, dst)
+    Some((src, dst))
 }
 
-fn texture_ranges(src: TextureSide, dst: TextureSide, size: Extent3d) -> TextureRanges
+fn texture_ranges(
+    src: TextureSide,
+    dst: TextureSide,
+    size: Extent3d,
+) -> Option<(TextureInitRange, TextureInitRange)>
     ensures { result ≡ ranges_of (is_empty size) (src_texture_range src.view src.texture size) (dst_texture_range dst.view dst.texture size) }
 {
-    let src_view = src.view;
-    let src_texture = src.texture;
-    let dst_view = dst.view;
-    let dst_texture = dst.texture;
     ranges_of(
         measures::is_empty(size),
-        rule_init_ranges::src_texture_range(src_view, src_texture, size),
-        rule_init_ranges::dst_texture_range(dst_view, dst_texture, size),
+        rule_init_ranges::src_texture_range(src.view, src.texture, size),
+        rule_init_ranges::dst_texture_range(dst.view, dst.texture, size),
     )
 }
 
@@ -158,8 +137,7 @@ pub fn plan_of(
     requires { layers < 2 ^ 16 }
     ensures { result ≡ plan_of src dst size src_extent dst_extent layers src_base dst_base }
 {
-    let dst_texture = dst.texture;
-    let parts = parts_of(dst_texture.format);
+    let parts = parts_of(dst.texture.format);
     let lesser = lesser_of(src_extent, dst_extent);
     let left = region_count(measures::is_empty(size), layers, parts);
     let ranges = texture_ranges(src, dst, size);
@@ -180,18 +158,14 @@ fn base_as(b: TextureCopyBase, aspects: u32, factor: u32) -> TextureCopyBase
     ensures { result ≡ base_as b aspects factor }
 {
     let origin = b.origin;
-    let x = origin.x;
-    let y = origin.y;
-    let start = Origin3d {
-        x: x.divided_by(factor),
-        y: y.divided_by(factor),
-        z: origin.z,
-    };
     TextureCopyBase {
-        mip_level: b.mip_level,
-        array_layer: b.array_layer,
-        origin: start,
+        origin: Origin3d {
+            x: origin.x.divided_by(factor),
+            y: origin.y.divided_by(factor),
+            z: origin.z,
+        },
         aspect: FormatAspects(aspects),
+        ..b
     }
 }
 
@@ -200,11 +174,9 @@ fn size_by(e: CopyExtent, factor: u32) -> CopyExtent
     requires { 0 < factor }
     ensures { result ≡ size_by e factor }
 {
-    let width = e.width;
-    let height = e.height;
     CopyExtent {
-        width: width.divided_by(factor),
-        height: height.divided_by(factor),
+        width: e.width.divided_by(factor),
+        height: e.height.divided_by(factor),
         depth: e.depth,
     }
 }
@@ -215,26 +187,21 @@ impl TexturePlan {
         requires { 0 < factor }
         ensures { result ≡ region_as self aspects factor }
     {
-        let src = self.src;
-        let dst = self.dst;
-        let size = self.size;
-        let from = base_as(src, aspects, factor);
-        let to = base_as(dst, aspects, factor);
-        let by = size_by(size, factor);
         TextureCopy {
-            src: from,
-            dst: to,
-            size: by,
+            src: base_as(self.src, aspects, factor),
+            dst: base_as(self.dst, aspects, factor),
+            size: size_by(self.size, factor),
         }
     }
 
     fn whole(self) -> TextureCopy
         ensures { result ≡ (record { src = self.src; dst = self.dst; size = self.size }) }
     {
-        let src = self.src;
-        let dst = self.dst;
-        let size = self.size;
-        TextureCopy { src, dst, size }
+        TextureCopy {
+            src: self.src,
+            dst: self.dst,
+            size: self.size,
+        }
     }
 
     fn part_as(self, first: u32, second: u32, factor: u32) -> TextureCopy
@@ -274,19 +241,10 @@ impl TexturePlan {
         requires { 0 < self.left }
         ensures { result ≡ other_part self }
     {
-        let src = self.src;
-        let dst = self.dst;
-        let size = self.size;
-        let parts = self.parts;
-        let ranges = self.ranges;
         TexturePlan {
-            src,
-            dst,
-            size,
-            parts,
             part: 1,
             left: self.left - 1,
-            ranges,
+            ..self
         }
     }
 
@@ -295,21 +253,12 @@ impl TexturePlan {
         requires { 0 < self.left }
         ensures { result ≡ other_layer self }
     {
-        let src = self.src;
-        let dst = self.dst;
-        let size = self.size;
-        let parts = self.parts;
-        let ranges = self.ranges;
-        let from = rule_selectors::next_layer(src);
-        let to = rule_selectors::next_layer(dst);
         TexturePlan {
-            src: from,
-            dst: to,
-            size,
-            parts,
+            src: rule_selectors::next_layer(self.src),
+            dst: rule_selectors::next_layer(self.dst),
             part: 0,
             left: self.left - 1,
-            ranges,
+            ..self
         }
     }
 
@@ -341,16 +290,13 @@ impl TexturePlan {
     {
         if self.left == 0 {
             return AskedTexture {
-                answer: NextTextureCopy::NoneLeft,
+                answer: None,
                 plan: self,
             };
         }
-        let parts = self.parts;
-        let region = self.region_of(parts);
-        let plan = self.advance(parts);
         AskedTexture {
-            answer: NextTextureCopy::Region(region),
-            plan,
+            answer: Some(self.region_of(self.parts)),
+            plan: self.advance(self.parts),
         }
     }
 }

@@ -1,17 +1,15 @@
 -- Laws of the regions that are written. Assumes nothing.
+use Rattle.std.specs.Prelude.{Option, None}
 use mathlib.Core.Path.{◌≡◌, refl, sym, ap, ◌∙◌}
-use mathlib.Core.Bool.{Bool, true, false, not}
+use mathlib.Core.Bool.{true}
 use mathlib.Core.List.{List, [], ◌++◌}
 use Prim.Native.Nat.{ℕ, zero, suc, ◌+◌, ◌-◌, ◌*◌, ◌^◌, ◌≤◌, ◌<◌}
 use native.Mathlib.Omega.{arith}
 use native.Mathlib.Nat.{suc-mul, add_comm, mul-le-mul_left}
-use borrow.Author.Tests.{ne_eqb, leb-true, not-true, not-false}
-use lib.Dec.{leb}
+use borrow.Author.Tests.{ne_eqb, leb-true}
 use lib.ListN.{length, take, get_or, get_or-append}
 use lib.Seq.{sets, get_or-append-add}
 use Rattle.conditions.specs.Conditions.{stop_if}
-use Rattle.refusals.specs.declared.TransferError.TheVariants.{RegionSliceTooShort}
-use Rattle.refusals.specs.declared.Checked.TheVariants as C
 use Rattle.slices.specs.Put.{Put}
 use Rattle.slices.proofs.Puts.{sets_append, put_as, put_length}
 use Rattle.plan_rows.specs.Rows.{row_of, buffer_copy_numbers, buffer_texture_copy_numbers, texture_copy_numbers}
@@ -20,8 +18,6 @@ use Rattle.plan_buffers.specs.Asking as K
 use Rattle.plan_buffer_texture.specs.Asking as L
 use Rattle.plan_textures.specs.declared.AskedTexture.{AskedTexture}
 use Rattle.plan_textures.specs.declared.TexturePlan.{TexturePlan}
-use Rattle.plan_textures.specs.declared.TextureRanges.{TextureRanges}
-use Rattle.plan_textures.specs.declared.TextureRanges.TheVariants.{Absent}
 use Rattle.plan_textures.specs.Asking as X
 use Rattle.plan_rows.proofs.Fronts.{row_count, row_numbers, row_inside}
 use Rattle.plan_kinds.specs.declared.Plan.{Plan}
@@ -29,7 +25,8 @@ use Rattle.plan_kinds.specs.declared.Plan.TheVariants.{Buffers, BufferTexture, T
 use Rattle.plan_kinds.specs.Regions.{left_of, fields_of, buffer_numbers, buffer_texture_numbers, texture_numbers, region_numbers, behind_of, textures_with}
 use Rattle.plan_kinds.proofs.Behind.{behind_left}
 use Rattle.plan_kinds.proofs.Ranges.{numbers_with, behind_with}
-use Rattle.plan_writer.specs.Writing.{numbers_from, numbers_left, behind_all, fits, slots_of, written_of, EveryEntry}
+use Rattle.plan_writer.specs.Writing.{numbers_from, numbers_left, behind_all, fits, EveryEntry}
+use Rattle.rule_init_ranges.specs.declared.TextureInitRange.{TextureInitRange}
 
 -- ---- one region
 
@@ -64,9 +61,6 @@ module _ (l₀ l : List ℕ) (p₀ p : Plan) (at : ℕ) where
     pub same : length l ≡ length l₀
     pub plan : behind_all (left_of p) p ≡ behind_all (left_of p₀) p₀
     pub slots : sets l at (numbers_left p) ≡ sets l₀ 0 (numbers_left p₀)
-
-pub begun : (l : List ℕ) (p : Plan) → left_of p * fields_of p ≤ length l → Underway l l p p 0
-begun l p h = record { room = omega arith; same = refl; plan = refl; slots = refl }
 
 module _ {l₀ l : List ℕ} {p₀ p : Plan} {at : ℕ} (u : Underway l₀ l p₀ p at) (h : 0 < left_of p) where
   pub region_few : length (region_numbers p) ≤ 15
@@ -111,16 +105,42 @@ ended {l = l} {p = p} {at = at} u h =
     (sym b ∙ u.plan, sym (ap (λ (ns : List ℕ). sets l at ns) f) ∙ u.slots)
 
 -- the loop that leaves the ranges out, seen with them
-module _ (ranges : TextureRanges) (p : TexturePlan) (asked : AskedTexture) (is : asked ≡ X.next_of p) where
+module _ (ranges : Option (TextureInitRange × TextureInitRange)) (p : TexturePlan) (asked : AskedTexture) (is : asked ≡ X.next_of p) where
   pub row_with : (row : Row) → row ≡ row_of (texture_numbers asked.answer) → row ≡ row_of (region_numbers (Textures (textures_with ranges p)))
   unfolding region_numbers
   row_with row e = e ∙ ap (λ (a : AskedTexture). row_of (texture_numbers a.answer)) is ∙ sym (ap row_of (numbers_with ranges p))
 
-  pub next_with : (q : TexturePlan) → q ≡ textures_with Absent asked.plan → Textures (textures_with ranges q) ≡ behind_of (Textures (textures_with ranges p))
+  pub next_with : (q : TexturePlan) → q ≡ textures_with None asked.plan → Textures (textures_with ranges q) ≡ behind_of (Textures (textures_with ranges p))
   next_with q e =
       ap (λ (n : TexturePlan). Textures (textures_with ranges n)) e
       ∙ ap (λ (a : AskedTexture). Textures (textures_with ranges a.plan)) is
       ∙ sym (behind_with ranges p)
+
+-- all regions of a plan between textures, and the plan after them, whatever the ranges
+textures_behind : ℕ → TexturePlan → TexturePlan
+textures_behind zero p = p
+textures_behind (suc n) p = textures_behind n (X.next_of p).plan
+
+module _ (ranges : Option (TextureInitRange × TextureInitRange)) where
+  all_with : (n : ℕ) (p : TexturePlan) → behind_all n (Textures (textures_with ranges p)) ≡ Textures (textures_with ranges (textures_behind n p))
+  unfolding behind_all textures_behind
+  all_with zero p = refl
+  all_with (suc n) p = rw (behind_with ranges p) (all_with n (X.next_of p).plan)
+
+  pub numbers_from_with : (n : ℕ) (p : TexturePlan) → numbers_from n (Textures (textures_with ranges p)) ≡ numbers_from n (Textures p)
+  unfolding numbers_from behind_of
+  numbers_from_with zero p = refl
+  numbers_from_with (suc n) p = rw (numbers_with ranges p, behind_with ranges p, numbers_from_with n (X.next_of p).plan)
+
+-- the ranges that were left out can be put back
+with_ranges : Option (TextureInitRange × TextureInitRange) → Plan → Plan
+with_ranges ranges (Buffers p) = Buffers p
+with_ranges ranges (BufferTexture p) = BufferTexture p
+with_ranges ranges (Textures p) = Textures (textures_with ranges p)
+
+pub restored : (n : ℕ) (p q : TexturePlan) → Textures (textures_with None q) ≡ behind_all n (Textures (textures_with None p)) → Textures (textures_with p.ranges q) ≡ behind_all n (Textures p)
+unfolding with_ranges
+restored n p q e = ap (with_ranges p.ranges) (e ∙ all_with None n p) ∙ sym (all_with p.ranges n p)
 
 -- a plan of a kind that is known
 pub room_of : (n : ℕ) (p k : Plan) → p ≡ k → left_of p * fields_of p ≤ n → left_of k * fields_of k ≤ n
@@ -133,10 +153,6 @@ all_of l m p k r e h = rw e h
 
 pub product_fits : (left fields : ℕ) → left < 2 ^ 32 → fields ≤ 15 → left * fields < 2 ^ 64
 product_fits left fields h f = let p : left * fields ≤ left * 15 = mul-le-mul_left left f in omega arith
-
-pub fits_by : (p : Plan) (left fields room : ℕ) → left ≡ left_of p → fields ≡ fields_of p → leb (left * fields) room ≡ fits p room
-unfolding fits
-fits_by p left fields room e f = rw (e, f)
 
 -- ---- where each number stands
 
@@ -163,17 +179,6 @@ every_entry p k f h g = entry (left_of p) k f p refl h g
 
 -- ---- the whole
 
-pub long_enough : (p : Plan) (n : ℕ) (room : Bool) → room ≡ fits p n → not room ≡ false → left_of p * fields_of p ≤ n
+pub long_enough : (p : Plan) (n : ℕ) → fits p n ≡ true → left_of p * fields_of p ≤ n
 unfolding fits
-long_enough p n room is h = leb-true _ _ (sym is ∙ not-false room h)
-
-module _ (p : Plan) (l : List ℕ) (room : Bool) (is : room ≡ fits p (length l)) where
-  pub too_short : not room ≡ true → (record { answer = C.Refused RegionSliceTooShort; plan = p } ≡ written_of p (length l)) × (l ≡ slots_of p l)
-  unfolding written_of slots_of
-  too_short h = let no = not-true room h in (rw (← is, no), rw (← is, no))
-
-  pub written :
-      (m : List ℕ) (q : Plan) → not room ≡ false → (q ≡ behind_all (left_of p) p) × (m ≡ sets l 0 (numbers_left p))
-      → (record { answer = C.GoOn; plan = q } ≡ written_of p (length l)) × (m ≡ slots_of p l)
-  unfolding written_of slots_of
-  written m q h e = let yes = not-false room h in (rw (← is, yes, e.0), rw (← is, yes) e.1)
+long_enough p n is = leb-true _ _ is

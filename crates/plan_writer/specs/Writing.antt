@@ -1,12 +1,11 @@
 -- The regions left of a plan in a lent slice.
-use Rattle.std.specs.Prelude.{◌≡◌, Bool, List, [], ◌++◌, ℕ, zero, suc, ◌+◌, ◌*◌, ◌<◌, leb, length, get_or}
+use Rattle.std.specs.Prelude.{◌≡◌, Bool, List, [], ◌++◌, ℕ, zero, suc, ◌+◌, ◌*◌, ◌<◌, leb, length, get_or, Result, Ok, Err}
 use Rattle.std.proofs.lemmas.List.Edits.{sets}
 use Rattle.conditions.specs.Conditions.{pick}
+use Rattle.refusals.specs.declared.TransferError.{TransferError}
 use Rattle.refusals.specs.declared.TransferError.TheVariants.{RegionSliceTooShort}
-use Rattle.refusals.specs.declared.Checked.TheVariants.{GoOn, Refused}
 use Rattle.plan_kinds.specs.declared.Plan.{Plan}
 use Rattle.plan_kinds.specs.Regions.{left_of, fields_of, region_numbers, behind_of}
-use Rattle.plan_writer.specs.declared.Written.{Written}
 
 -- n regions' numbers, region after region
 unfoldable pub numbers_from : ℕ → Plan → List ℕ
@@ -29,12 +28,9 @@ fits p room = leb (left_of p * fields_of p) room
 unfoldable pub slots_of : Plan → List ℕ → List ℕ
 slots_of p slots = pick (fits p (length slots)) (sets slots 0 (numbers_left p)) slots
 
--- 38 where the slice is too short
-unfoldable pub written_of : Plan → ℕ → Written
-written_of p room =
-    pick (fits p room)
-    (record { answer = GoOn; plan = behind_all (left_of p) p })
-    (record { answer = Refused RegionSliceTooShort; plan = p })
+-- the plan after them; 38 where the slice is too short
+unfoldable pub written_of : Plan → ℕ → Result Plan TransferError
+written_of p room = pick (fits p room) (Ok (behind_all (left_of p) p)) (Err RegionSliceTooShort)
 
 -- field f of region k is number k × fields + f, whatever the number of fields
 abbrev pub EveryEntry : Type 0

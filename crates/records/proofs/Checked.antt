@@ -1,5 +1,6 @@
 -- The checks of records find nothing exactly where the records are within their bounds; and how both textures' go on after one's.
 -- Assumes nothing.
+use Rattle.std.specs.Prelude.{Result, Err}
 use mathlib.Core.Path.{◌≡◌, sym, ◌∙◌}
 use mathlib.Core.Bool.{Bool, true, false, not}
 use mathlib.Core.List.{[], flatten}
@@ -7,13 +8,12 @@ use borrow.Author.Tests.{not-true, not-false}
 use Rattle.conditions.proofs.Rules.{not_no, and_lines}
 use Rattle.refusals.specs.declared.CopySide.{CopySide}
 use Rattle.refusals.specs.declared.TransferError.TheVariants.{InvalidTextureRecord}
-use Rattle.refusals.specs.declared.Checked.{Checked}
-use Rattle.refusals.specs.declared.Checked.TheVariants as C
 use Rattle.refusals.specs.Order.{refuse_if, first}
 use Rattle.refusals.proofs.Order.{none_in, flat_empty, test_fails, test_off}
 use Rattle.records.specs.declared.Buffer.{Buffer}
 use Rattle.records.specs.declared.Texture.{Texture}
 use Rattle.records.specs.Bounds.{buffer_in_bounds, texture_in_bounds, buffer_checks, texture_checks}
+use Rattle.refusals.specs.declared.TransferError.{TransferError}
 
 pub buffer_of_lem : (b : Buffer) (side : CopySide) → flatten (buffer_checks b side) ≡ [] → buffer_in_bounds b ≡ true
 unfolding buffer_checks
@@ -39,12 +39,12 @@ falls r t p q = sym (not-true r q) ∙ p
 pub holds : (r t : Bool) → r ≡ t → not r ≡ false → true ≡ t
 holds r t p q = sym (not-false r q) ∙ p
 
-module _ (t : Texture) (side : CopySide) (rest x : Checked) where
-  pub record_stops : false ≡ texture_in_bounds t → x ≡ C.Refused (InvalidTextureRecord side) → x ≡ first (flatten (texture_checks t side)) C.Refused rest
+module _ (R : Type 0) (t : Texture) (side : CopySide) (rest x : Result R TransferError) where
+  pub record_stops : false ≡ texture_in_bounds t → x ≡ Err (InvalidTextureRecord side) → x ≡ first (flatten (texture_checks t side)) rest
   unfolding texture_checks first refuse_if flatten
   record_stops h k = rw (sym h) k
 
-  pub record_passes : true ≡ texture_in_bounds t → x ≡ rest → x ≡ first (flatten (texture_checks t side)) C.Refused rest
+  pub record_passes : true ≡ texture_in_bounds t → x ≡ rest → x ≡ first (flatten (texture_checks t side)) rest
   unfolding texture_checks first refuse_if flatten
   record_passes h k = rw (sym h) k
 

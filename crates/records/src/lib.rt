@@ -2,16 +2,19 @@
 // The records of a copy, their bounds, and the extents of a texture's level.
 ghost use Rattle.std.specs.Prelude.{◌≡◌, true, ◌&&◌, max};
 ghost use Rattle.mip_levels.specs.Level.{texture_dimension};
-ghost use Rattle.refusals.specs.Order.{checked};
+ghost use Rattle.refusals.specs.Order.{decided, mapped};
 ghost use Rattle.records.specs.Bounds.{within, buffer_in_bounds, size_in_bounds, mip_side, levels_in_bounds, may_be_multisampled, four_samples, samples_in_bounds, dimension_suits, sides_whole, even_sides, planes_suit, fields_in_bounds, format_suits, texture_in_bounds, buffer_checks, texture_checks, both_texture_checks};
 ghost use Rattle.records.specs.Extents.{logical_extent, physical_extent};
 ghost use Rattle.records.specs.Laws.{RecordLaws};
 
+mod checked_records;
+
+pub use checked_records::{CheckedBuffer, CheckedTexture};
 use flags::{BufferUsages, TextureUsages};
 use formats::TextureAspect;
-use measures::{Extent3d, OptionU32, Origin3d, Texels};
+use measures::{BlockSide, Extent3d, Origin3d, Texels};
 use mip_levels::TextureDimension;
-use refusals::{Checked, CopySide, TransferError};
+use refusals::{CopySide, TransferError};
 
 const MAX_BUFFER_SIZE: u64 = 268_435_456;
 
@@ -57,8 +60,8 @@ pub struct TexelCopyTextureInfo {
 #[derive(Clone, Copy)]
 pub struct TexelCopyBufferLayout {
     pub offset: u64,
-    pub bytes_per_row: OptionU32,
-    pub rows_per_image: OptionU32,
+    pub bytes_per_row: Option<u32>,
+    pub rows_per_image: Option<u32>,
 }
 
 // A texture and the part of it: either side of a copy between textures.
@@ -73,12 +76,6 @@ pub struct TextureSide {
 pub struct Device {
     pub depth_texture_and_buffer_copies: bool,
     pub unrestricted_index_buffer: bool,
-}
-
-fn larger(a: u32, b: u32) -> u32
-    ensures { result ≡ max a b }
-{
-    if a < b { b } else { a }
 }
 
 #[tactic(auto, unfolding(crate::specs::Bounds::within))]
@@ -125,11 +122,11 @@ fn size_in_bounds(dimension: TextureDimension, e: Extent3d) -> bool
 fn mip_side(dimension: TextureDimension, e: Extent3d) -> u32
     ensures { result ≡ mip_side dimension e }
 {
-    let side = larger(e.width.0, e.height.0);
+    let side = e.width.0.max(e.height.0);
     match dimension {
         TextureDimension::D1 => 1,
         TextureDimension::D2 => side,
-        TextureDimension::D3 => larger(side, e.depth_or_array_layers),
+        TextureDimension::D3 => side.max(e.depth_or_array_layers),
     }
 }
 
@@ -217,13 +214,9 @@ fn sides_whole(format: u32, e: Extent3d) -> bool
     ensures { result ≡ sides_whole format e }
 {
     let block = formats::block_dimensions(format);
-    let width = e.width;
-    let height = e.height;
-    let block_width = block.width;
-    let block_height = block.height;
     conditions::both(
-        width.is_multiple_of(block_width),
-        height.is_multiple_of(block_height),
+        e.width.is_multiple_of(block.width),
+        e.height.is_multiple_of(block.height),
     )
 }
 
@@ -231,11 +224,10 @@ fn has_even_sides(t: Texture) -> bool
     ensures { result ≡ even_sides t }
 {
     let size = t.size;
-    let width = size.width;
-    let height = size.height;
+    let two = BlockSide::new(Texels(2));
     conditions::all_three(
-        width.is_multiple_of(Texels(2)),
-        height.is_multiple_of(Texels(2)),
+        size.width.is_multiple_of(two),
+        size.height.is_multiple_of(two),
         t.mip_level_count == 1,
     )
 }
@@ -281,50 +273,58 @@ fn texture_in_bounds(t: Texture) -> bool
     fields_agree(t)
 }
 
-// 3 where a buffer's record is out of its bounds.
-pub fn check_buffer(b: Buffer, side: CopySide) -> Checked
-    ensures { result ≡ checked (buffer_checks b side) }
+// A buffer whose record is within its bounds, or 3.
+pub fn check_buffer(b: Buffer, side: CopySide) -> Result<CheckedBuffer, TransferError>
+    ensures { mapped (λ c. c.buffer) result ≡ decided (buffer_checks b side) (Ok b) }
 {
     if !buffer_in_bounds(b) {
-        return Checked::Refused(TransferError::InvalidBufferRecord { side });
+        return Err(TransferError::InvalidBufferRecord { side });
     }
-    Checked::GoOn
+    Ok(CheckedBuffer { buffer: b })
 }
 
-fn bad_texture(side: CopySide) -> Checked
-    ensures { result ≡ Checked.Refused (TransferError.InvalidTextureRecord side) }
-{
-    Checked::Refused(TransferError::InvalidTextureRecord { side })
-}
-
-// 2 where a texture's record is out of its bounds.
-pub fn check_texture(t: Texture, side: CopySide) -> Checked
-    ensures { result ≡ checked (texture_checks t side) }
+// A texture whose record is within its bounds, or 2.
+pub fn check_texture(t: Texture, side: CopySide) -> Result<CheckedTexture, TransferError>
+    ensures { mapped (λ c. c.texture) result ≡ decided (texture_checks t side) (Ok t) }
 {
     if !texture_in_bounds(t) {
-        return bad_texture(side);
+        return Err(TransferError::InvalidTextureRecord { side });
     }
-    Checked::GoOn
+    Ok(CheckedTexture { texture: t })
 }
 
 // 2 where the source's record is out of its bounds, then where the destination's is. Both are written out, since the compiler inlines
 // the two halves of the test where they are called twice, and would leave the whole of it a call, for which a record has to be stored.
-pub fn check_textures(src: Texture, dst: Texture) -> Checked
-    ensures { result ≡ checked (both_texture_checks src dst) }
+pub fn check_textures(
+    src: Texture,
+    dst: Texture,
+) -> Result<(CheckedTexture, CheckedTexture), TransferError>
+    ensures { mapped {B = Texture × Texture} (λ c. (c.0.texture, c.1.texture)) result ≡ decided (both_texture_checks src dst) (Ok (src, dst)) }
 {
     if !fields_in_bounds(src) {
-        return bad_texture(CopySide::Source);
+        return Err(TransferError::InvalidTextureRecord {
+            side: CopySide::Source,
+        });
     }
     if !fields_agree(src) {
-        return bad_texture(CopySide::Source);
+        return Err(TransferError::InvalidTextureRecord {
+            side: CopySide::Source,
+        });
     }
     if !fields_in_bounds(dst) {
-        return bad_texture(CopySide::Destination);
+        return Err(TransferError::InvalidTextureRecord {
+            side: CopySide::Destination,
+        });
     }
     if !fields_agree(dst) {
-        return bad_texture(CopySide::Destination);
+        return Err(TransferError::InvalidTextureRecord {
+            side: CopySide::Destination,
+        });
     }
-    Checked::GoOn
+    Ok((
+        CheckedTexture { texture: src },
+        CheckedTexture { texture: dst },
+    ))
 }
 
 // The logical extent of a level.
@@ -337,13 +337,13 @@ pub fn logical_extent(t: Texture, level: u32) -> Extent3d
 }
 
 // The physical extent of a level: its width and height rounded up to blocks.
-pub fn physical_extent(t: Texture, level: u32) -> Extent3d
-    requires { texture_in_bounds t ≡ true }
-    ensures { result ≡ physical_extent t level }
+pub fn physical_extent(t: CheckedTexture, level: u32) -> Extent3d
+    ensures { result ≡ physical_extent t.texture level }
 {
+    let format = t.texture.format;
     measures::physical_size(
-        logical_extent(t, level),
-        formats::block_dimensions(t.format),
+        logical_extent(t.texture, level),
+        formats::block_dimensions(format),
     )
 }
 

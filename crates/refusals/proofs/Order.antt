@@ -1,5 +1,7 @@
 -- How an order of checks goes on after a check, and what an answer says of the checks.
 -- Assumes nothing.
+use Rattle.std.specs.Prelude.{Result, Ok, Err, IsErrAnd}
+use Rattle.std.proofs.lemmas.Result.{err_from_is_err_and}
 use mathlib.Core.Path.{◌≡◌, refl, sym, ap, ◌∙◌}
 use mathlib.Core.Bool.{Bool, true, false, not}
 use mathlib.Core.List.{List, [], ◌∷◌, flatten}
@@ -10,91 +12,100 @@ use borrow.Author.Tests.{lt-ltb, le-ltb, le-leb, lt-leb, eq-eqb, ne_eqb}
 use Rattle.conditions.specs.Conditions.{stop_if}
 use Rattle.conditions.proofs.Rules.{not_yes, not_no}
 use Rattle.refusals.specs.declared.TransferError.{TransferError}
-use Rattle.refusals.specs.declared.Checked.{Checked}
-use Rattle.refusals.specs.declared.Checked.TheVariants as C
 use Rattle.refusals.specs.Order.{Checks, refuse_if, first, decided, checked}
 
 -- ---- one check, then the rest
 
-module _ (R : Type 0) (refused : TransferError → R) (rest x : R) (e : TransferError) where
-  pub test_stops : (t : Bool) → t ≡ true → x ≡ refused e → x ≡ first (refuse_if t e) refused rest
+module _ (R : Type 0) (rest x : Result R TransferError) (e : TransferError) where
+  pub test_stops : (t : Bool) → t ≡ true → x ≡ Err e → x ≡ first (refuse_if t e) rest
   unfolding first refuse_if
   test_stops t h k = rw h k
 
-  pub test_passes : (t : Bool) → t ≡ false → x ≡ rest → x ≡ first (refuse_if t e) refused rest
+  pub test_passes : (t : Bool) → t ≡ false → x ≡ rest → x ≡ first (refuse_if t e) rest
   unfolding first refuse_if
   test_passes t h k = rw h k
 
   -- the test was a call's answer
-  pub test_stops_flag : (r t : Bool) → r ≡ t → r ≡ true → x ≡ refused e → x ≡ first (refuse_if t e) refused rest
+  pub test_stops_flag : (r t : Bool) → r ≡ t → r ≡ true → x ≡ Err e → x ≡ first (refuse_if t e) rest
   test_stops_flag r t p q k = test_stops t (sym p ∙ q) k
 
-  pub test_passes_flag : (r t : Bool) → r ≡ t → r ≡ false → x ≡ rest → x ≡ first (refuse_if t e) refused rest
+  pub test_passes_flag : (r t : Bool) → r ≡ t → r ≡ false → x ≡ rest → x ≡ first (refuse_if t e) rest
   test_passes_flag r t p q k = test_passes t (sym p ∙ q) k
 
   -- the test was the negation of a call's answer
-  pub test_stops_unflag : (r t : Bool) → r ≡ t → not r ≡ true → x ≡ refused e → x ≡ first (refuse_if (not t) e) refused rest
+  pub test_stops_unflag : (r t : Bool) → r ≡ t → not r ≡ true → x ≡ Err e → x ≡ first (refuse_if (not t) e) rest
   test_stops_unflag r t p q k = test_stops (not t) (ap not (sym p) ∙ q) k
 
-  pub test_passes_unflag : (r t : Bool) → r ≡ t → not r ≡ false → x ≡ rest → x ≡ first (refuse_if (not t) e) refused rest
+  pub test_passes_unflag : (r t : Bool) → r ≡ t → not r ≡ false → x ≡ rest → x ≡ first (refuse_if (not t) e) rest
   test_passes_unflag r t p q k = test_passes (not t) (ap not (sym p) ∙ q) k
 
 -- the answer is the first of all refusals
-pub first_of_all : (R : Type 0) (checks : Checks) (refused : TransferError → R) (answer : R) → decided checks refused answer ≡ first (flatten checks) refused answer
+pub first_of_all : (R : Type 0) (checks : Checks) (answer : Result R TransferError) → decided checks answer ≡ first (flatten checks) answer
 unfolding decided first flatten
-first_of_all R [] refused answer = refl
-first_of_all R ([] ∷ checks) refused answer = first_of_all R checks refused answer
-first_of_all R ((e ∷ es) ∷ checks) refused answer = refl
+first_of_all R [] answer = refl
+first_of_all R ([] ∷ checks) answer = first_of_all R checks answer
+first_of_all R ((e ∷ es) ∷ checks) answer = refl
 
 -- a line of a staged order of checks as a check of a list
-pub line : (R : Type 0) (refused : TransferError → R) (t : Bool) (e : TransferError) (rest : R) → stop_if t (refused e) rest ≡ first (refuse_if t e) refused rest
+pub line : (R : Type 0) (t : Bool) (e : TransferError) (rest : Result R TransferError) → stop_if t (Err e) rest ≡ first (refuse_if t e) rest
 unfolding stop_if first refuse_if
-line R refused true e rest = refl
-line R refused false e rest = refl
+line R true e rest = refl
+line R false e rest = refl
 
--- ---- a rule within an order: its answer, as a rule has it, taken apart
+-- ---- a rule within an order: its answer taken apart
 
-module _ (Q : Type 0) (said : TransferError → Q) (given : Q) (found : List TransferError) where
-  pub clear : (x : Q) → x ≡ first found said given → ((e : TransferError) → said e ≡ x → ⊥) → (found ≡ []) × (x ≡ given)
-  unfolding first
-  clear x p other = by found p
-    where
-      by : (found : List TransferError) → x ≡ first found said given → (found ≡ []) × (x ≡ given)
-      by [] p = (refl, p)
-      by (e ∷ es) p = absurd (other e (sym p))
-
-  pub found_first :
-      (e : TransferError) → said e ≡ first found said given → (given ≡ said e → ⊥) → ((a : TransferError) → said a ≡ said e → a ≡ e)
-      → (R : Type 0) (refused : TransferError → R) (rest : R) → first found refused rest ≡ refused e
-  unfolding first
-  found_first e p other same R refused rest = by found p
-    where
-      by : (found : List TransferError) → said e ≡ first found said given → first found refused rest ≡ refused e
-      by [] p = absurd (other (sym p))
-      by (a ∷ more) p = ap refused (same a (sym p))
-
-no_refusal : {e : TransferError} → C.Refused e ≡ C.GoOn → ⊥
+pub no_refusal : {R : Type 0} {e : TransferError} {v : R} → ◌≡◌ {A = Result R TransferError} (Err e) (Ok v) → ⊥
 no_refusal h = let z : ◌≡◌ {A = ℕ} 0 1 = cc in omega arith
 
-same_refusal : (a e : TransferError) → C.Refused a ≡ C.Refused e → a ≡ e
-same_refusal a e h = cc
+pub same_refusal : {R : Type 0} {a e : TransferError} → ◌≡◌ {A = Result R TransferError} (Err a) (Err e) → a ≡ e
+same_refusal h = cc
 
-module _ (R : Type 0) (refused : TransferError → R) (rest x : R) (checks : Checks) (r : Checked) where
-  pub rule_passes : r ≡ checked checks → r ≡ C.GoOn → x ≡ rest → x ≡ first (flatten checks) refused rest
+pub same_value : {R : Type 0} {v w : R} → ◌≡◌ {A = Result R TransferError} (Ok v) (Ok w) → v ≡ w
+same_value h = cc
+
+-- what `?` hands up
+pub handed_up : {R : Type 0} (x : Result R TransferError) (e : TransferError) → IsErrAnd x (λ d. d ≡ e) → x ≡ Err e
+handed_up x e h = let p = err_from_is_err_and x h in p.1 ∙ ap Err p.2
+
+module _ (R : Type 0) (v : R) (found : List TransferError) where
+  -- where nothing was refused, nothing was found
+  pub clear : (w : R) → Ok w ≡ first found (Ok v) → (found ≡ []) × (w ≡ v)
   unfolding first
-  rule_passes p q k =
-      let none = clear Checked C.Refused C.GoOn (flatten checks) C.GoOn (sym q ∙ p ∙ first_of_all Checked checks C.Refused C.GoOn) (λ e. no_refusal) in
-      rw none.0 k
+  clear w p = by found p
+    where
+      by : (found : List TransferError) → Ok w ≡ first found (Ok v) → (found ≡ []) × (w ≡ v)
+      by [] p = (refl, same_value p)
+      by (e ∷ es) p = absurd (no_refusal (sym p))
 
-  pub rule_stops : (e : TransferError) → r ≡ checked checks → r ≡ C.Refused e → x ≡ refused e → x ≡ first (flatten checks) refused rest
-  rule_stops e p q k =
-      k ∙ sym (found_first Checked C.Refused C.GoOn (flatten checks) e (sym q ∙ p ∙ first_of_all Checked checks C.Refused C.GoOn) (λ h. no_refusal (sym h)) (λ a. same_refusal a e) R refused rest)
+  pub found_first : (e : TransferError) → Err e ≡ first found (Ok v) → (S : Type 0) (rest : Result S TransferError) → first found rest ≡ Err e
+  unfolding first
+  found_first e p S rest = by found p
+    where
+      by : (found : List TransferError) → Err e ≡ first found (Ok v) → first found rest ≡ Err e
+      by [] p = absurd (no_refusal p)
+      by (a ∷ more) p = ap Err (same_refusal (sym p))
+
+module _ {R S : Type 0} {x : Result S TransferError} {r : Result R TransferError} (checks : Checks) (v : R) (rest : Result S TransferError) where
+  pub rule_passes : {w : R} → r ≡ decided checks (Ok v) → r ≡ Ok w → x ≡ rest → x ≡ first (flatten checks) rest
+  unfolding first
+  rule_passes {w} p q k = rw (clear R v (flatten checks) w (sym q ∙ p ∙ first_of_all R checks (Ok v))).0 k
+
+  pub rule_stops : {e : TransferError} → r ≡ decided checks (Ok v) → r ≡ Err e → x ≡ Err e → x ≡ first (flatten checks) rest
+  rule_stops {e} p q k = k ∙ sym (found_first R v (flatten checks) e (sym q ∙ p ∙ first_of_all R checks (Ok v)) S rest)
+
+  -- the refusal was handed up by `?`
+  pub rule_hands : {e : TransferError} → r ≡ decided checks (Ok v) → r ≡ Err e → IsErrAnd x (λ d. d ≡ e) → x ≡ first (flatten checks) rest
+  rule_hands {e} p q h = rule_stops p q (handed_up x e h)
 
 -- a refusal that a function made
-pub refused_alike : (d e : TransferError) → d ≡ e → C.Refused d ≡ C.Refused e
-refused_alike d e p = ap C.Refused p
+pub refused_alike : {R : Type 0} (d e : TransferError) → d ≡ e → ◌≡◌ {A = Result R TransferError} (Err d) (Err e)
+refused_alike d e p = ap Err p
 
-pub ruleset ordered = (lt-ltb, le-ltb, le-leb, lt-leb, eq-eqb, ne_eqb, not_yes, not_no, test_stops, test_passes, test_stops_flag, test_passes_flag, test_stops_unflag, test_passes_unflag, rule_passes, rule_stops, refused_alike)
+-- an answer that is made of what a function gave
+pub given_alike : {R : Type 0} (v w : R) → v ≡ w → ◌≡◌ {A = Result R TransferError} (Ok v) (Ok w)
+given_alike v w p = ap Ok p
+
+pub ruleset ordered = (lt-ltb, le-ltb, le-leb, lt-leb, eq-eqb, ne_eqb, not_yes, not_no, test_stops, test_passes, test_stops_flag, test_passes_flag, test_stops_unflag, test_passes_unflag, rule_passes, rule_stops, rule_hands, refused_alike, given_alike)
 
 -- ---- what an answer that is no refusal says of every check
 
@@ -112,18 +123,18 @@ none_of [] e n = refl
 none_of (found ∷ checks) e zero = e.0
 none_of (found ∷ checks) e (suc n) = none_of checks e.1 n
 
-module _ (R : Type 0) (refused : TransferError → R) (answer : R) where
-  pub none_found : (checks : Checks) (x : R) → decided checks refused answer ≡ x → ((e : TransferError) → refused e ≡ x → ⊥) → NoneFound checks × (answer ≡ x)
+module _ (R : Type 0) (v : R) where
+  pub none_found : (checks : Checks) (w : R) → decided checks (Ok v) ≡ Ok w → NoneFound checks × (v ≡ w)
   unfolding decided first
-  none_found [] x h other = (λ n. refl, h)
-  none_found ([] ∷ checks) x h other = let rest = none_found checks x h other in (λ n. at n rest.0, rest.1)
+  none_found [] w h = (λ n. refl, same_value h)
+  none_found ([] ∷ checks) w h = let rest = none_found checks w h in (λ n. at n rest.0, rest.1)
     where
       at : (n : ℕ) → NoneFound checks → get_or ([] ∷ checks) n [] ≡ []
       at zero f = refl
       at (suc n) f = f n
-  none_found ((e ∷ es) ∷ checks) x h other = absurd (other e h)
+  none_found ((e ∷ es) ∷ checks) w h = absurd (no_refusal h)
 
-  pub all_pass : (checks : Checks) → Empties checks → decided checks refused answer ≡ answer
+  pub all_pass : (checks : Checks) → Empties checks → decided checks (Ok v) ≡ Ok v
   unfolding decided first
   all_pass [] e = refl
   all_pass (found ∷ checks) e = rw e.0 (all_pass checks e.1)
@@ -153,9 +164,9 @@ test_off t e h = rw h
 
 -- ---- a rule that goes on finds nothing
 
-pub checked_passes : (checks : Checks) → checked checks ≡ C.GoOn → flatten checks ≡ []
-checked_passes checks h = (clear Checked C.Refused C.GoOn (flatten checks) C.GoOn (sym h ∙ first_of_all Checked checks C.Refused C.GoOn) (λ e. no_refusal)).0
+pub checked_passes : (checks : Checks) → checked checks ≡ Ok tt → flatten checks ≡ []
+checked_passes checks h = (clear Unit tt (flatten checks) tt (sym h ∙ first_of_all Unit checks (Ok tt))).0
 
-pub passes_checked : (checks : Checks) → flatten checks ≡ [] → checked checks ≡ C.GoOn
+pub passes_checked : (checks : Checks) → flatten checks ≡ [] → checked checks ≡ Ok tt
 unfolding first
-passes_checked checks h = first_of_all Checked checks C.Refused C.GoOn ∙ rw h
+passes_checked checks h = first_of_all Unit checks (Ok tt) ∙ rw h

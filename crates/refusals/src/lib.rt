@@ -142,31 +142,28 @@ pub struct Refusal {
     pub limit: u64,
 }
 
-// A rule's answer where it hands on no value.
-#[derive(Clone, Copy)]
-pub enum Checked {
-    GoOn,
-    Refused(TransferError),
-}
+impl From<CopySide> for u32 {
+    ghost from_gives = { λ side n. n ≡ side_of side };
 
-#[tactic(auto, unfolding(crate::specs::Numbers::side_of))]
-fn side_number(side: CopySide) -> u32
-    ensures { result ≡ side_of side }
-{
-    match side {
-        CopySide::Source => 1,
-        CopySide::Destination => 2,
+    #[tactic(auto, unfolding(crate::specs::Numbers::side_of))]
+    fn from(side: CopySide) -> u32 {
+        match side {
+            CopySide::Source => 1,
+            CopySide::Destination => 2,
+        }
     }
 }
 
-#[tactic(auto, unfolding(crate::specs::Numbers::dimension_number))]
-fn dimension_number(dimension: TextureErrorDimension) -> u32
-    ensures { result ≡ dimension_number dimension }
-{
-    match dimension {
-        TextureErrorDimension::X => 1,
-        TextureErrorDimension::Y => 2,
-        TextureErrorDimension::Z => 3,
+impl From<TextureErrorDimension> for u32 {
+    ghost from_gives = { λ dimension n. n ≡ dimension_number dimension };
+
+    #[tactic(auto, unfolding(crate::specs::Numbers::dimension_number))]
+    fn from(dimension: TextureErrorDimension) -> u32 {
+        match dimension {
+            TextureErrorDimension::X => 1,
+            TextureErrorDimension::Y => 2,
+            TextureErrorDimension::Z => 3,
+        }
     }
 }
 
@@ -207,7 +204,7 @@ fn sided(number: u32, side: CopySide, start: u64, end: u64, limit: u64) -> Refus
 {
     Refusal {
         number,
-        side: side_number(side),
+        side: u32::from(side),
         dimension: 0,
         start,
         end,
@@ -227,8 +224,8 @@ fn ranged(
 {
     Refusal {
         number,
-        side: side_number(side),
-        dimension: dimension_number(dimension),
+        side: u32::from(side),
+        dimension: u32::from(dimension),
         start: start as u64,
         end,
         limit: limit as u64,
@@ -236,78 +233,80 @@ fn ranged(
 }
 
 // The number and the details of a refusal.
-#[tactic(auto, unfolding(crate::specs::Numbers::numbers_of))]
-pub fn numbers_of(e: TransferError) -> Refusal
-    ensures { result ≡ numbers_of e }
-{
-    match e {
-        TransferError::InvalidSheetIndex => bare(1),
-        TransferError::InvalidTextureRecord { side } => sided(2, side, 0, 0, 0),
-        TransferError::InvalidBufferRecord { side } => sided(3, side, 0, 0, 0),
-        TransferError::SameSourceDestinationBuffer => bare(4),
-        TransferError::MissingBufferUsage { side } => sided(5, side, 0, 0, 0),
-        TransferError::MissingTextureUsage { side } => sided(6, side, 0, 0, 0),
-        TransferError::BufferStartOffsetOverrun {
-            start_offset,
-            buffer_size,
-            side,
-        } => sided(7, side, start_offset, 0, buffer_size),
-        TransferError::BufferEndOffsetOverrun {
-            start_offset,
-            size,
-            buffer_size,
-            side,
-        } => sided(8, side, start_offset, size, buffer_size),
-        TransferError::TextureOverrun {
-            start_offset,
-            end_offset,
-            texture_size,
-            dimension,
-            side,
-        } => ranged(9, side, dimension, start_offset, end_offset, texture_size),
-        TransferError::UnsupportedPartialTransfer {
-            start_offset,
-            end_offset,
-            texture_size,
-            dimension,
-            side,
-            ..
-        } => ranged(10, side, dimension, start_offset, end_offset, texture_size),
-        TransferError::InvalidCopyWithinSameTexture {
-            src_origin_z,
-            dst_origin_z,
-            array_layer_count,
-            ..
-        } => counted(11, src_origin_z, dst_origin_z, array_layer_count),
-        TransferError::InvalidTextureAspect { .. } => bare(12),
-        TransferError::InvalidTextureMipLevel { level, total } => counted(13, level, 0, total),
-        TransferError::UnalignedBufferOffset(offset) => numbered(14, offset),
-        TransferError::UnalignedCopySize(size) => numbered(15, size),
-        TransferError::UnalignedCopyWidth => bare(16),
-        TransferError::UnalignedCopyHeight => bare(17),
-        TransferError::UnalignedCopyOriginX => bare(18),
-        TransferError::UnalignedCopyOriginY => bare(19),
-        TransferError::UnalignedBytesPerRow => bare(20),
-        TransferError::UnspecifiedBytesPerRow => bare(21),
-        TransferError::UnspecifiedRowsPerImage => bare(22),
-        TransferError::InvalidBytesPerRow => bare(23),
-        TransferError::InvalidRowsPerImage => bare(24),
-        TransferError::SizeOverflow => bare(25),
-        TransferError::CopySrcMissingAspects => bare(26),
-        TransferError::CopyDstMissingAspects => bare(27),
-        TransferError::CopyAspectNotOne => bare(28),
-        TransferError::CopyFromForbiddenTextureFormat(_) => bare(29),
-        TransferError::CopyFromForbiddenTextureFormatAspect { .. } => bare(30),
-        TransferError::CopyToForbiddenTextureFormat(_) => bare(31),
-        TransferError::CopyToForbiddenTextureFormatAspect { .. } => bare(32),
-        TransferError::TextureFormatsNotCopyCompatible { .. } => bare(33),
-        TransferError::MissingDownlevelFlags(_) => bare(34),
-        TransferError::InvalidSampleCount { sample_count } => counted(35, sample_count, 0, 0),
-        TransferError::SampleCountNotEqual {
-            src_sample_count,
-            dst_sample_count,
-        } => counted(36, src_sample_count, dst_sample_count, 0),
-        TransferError::InvalidMipLevel { .. } => bare(37),
-        TransferError::RegionSliceTooShort => bare(38),
+impl From<TransferError> for Refusal {
+    ghost from_gives = { λ e r. r ≡ numbers_of e };
+
+    #[tactic(auto, unfolding(crate::specs::Numbers::numbers_of))]
+    fn from(e: TransferError) -> Refusal {
+        match e {
+            TransferError::InvalidSheetIndex => bare(1),
+            TransferError::InvalidTextureRecord { side } => sided(2, side, 0, 0, 0),
+            TransferError::InvalidBufferRecord { side } => sided(3, side, 0, 0, 0),
+            TransferError::SameSourceDestinationBuffer => bare(4),
+            TransferError::MissingBufferUsage { side } => sided(5, side, 0, 0, 0),
+            TransferError::MissingTextureUsage { side } => sided(6, side, 0, 0, 0),
+            TransferError::BufferStartOffsetOverrun {
+                start_offset,
+                buffer_size,
+                side,
+            } => sided(7, side, start_offset, 0, buffer_size),
+            TransferError::BufferEndOffsetOverrun {
+                start_offset,
+                size,
+                buffer_size,
+                side,
+            } => sided(8, side, start_offset, size, buffer_size),
+            TransferError::TextureOverrun {
+                start_offset,
+                end_offset,
+                texture_size,
+                dimension,
+                side,
+            } => ranged(9, side, dimension, start_offset, end_offset, texture_size),
+            TransferError::UnsupportedPartialTransfer {
+                start_offset,
+                end_offset,
+                texture_size,
+                dimension,
+                side,
+                ..
+            } => ranged(10, side, dimension, start_offset, end_offset, texture_size),
+            TransferError::InvalidCopyWithinSameTexture {
+                src_origin_z,
+                dst_origin_z,
+                array_layer_count,
+                ..
+            } => counted(11, src_origin_z, dst_origin_z, array_layer_count),
+            TransferError::InvalidTextureAspect { .. } => bare(12),
+            TransferError::InvalidTextureMipLevel { level, total } => counted(13, level, 0, total),
+            TransferError::UnalignedBufferOffset(offset) => numbered(14, offset),
+            TransferError::UnalignedCopySize(size) => numbered(15, size),
+            TransferError::UnalignedCopyWidth => bare(16),
+            TransferError::UnalignedCopyHeight => bare(17),
+            TransferError::UnalignedCopyOriginX => bare(18),
+            TransferError::UnalignedCopyOriginY => bare(19),
+            TransferError::UnalignedBytesPerRow => bare(20),
+            TransferError::UnspecifiedBytesPerRow => bare(21),
+            TransferError::UnspecifiedRowsPerImage => bare(22),
+            TransferError::InvalidBytesPerRow => bare(23),
+            TransferError::InvalidRowsPerImage => bare(24),
+            TransferError::SizeOverflow => bare(25),
+            TransferError::CopySrcMissingAspects => bare(26),
+            TransferError::CopyDstMissingAspects => bare(27),
+            TransferError::CopyAspectNotOne => bare(28),
+            TransferError::CopyFromForbiddenTextureFormat(_) => bare(29),
+            TransferError::CopyFromForbiddenTextureFormatAspect { .. } => bare(30),
+            TransferError::CopyToForbiddenTextureFormat(_) => bare(31),
+            TransferError::CopyToForbiddenTextureFormatAspect { .. } => bare(32),
+            TransferError::TextureFormatsNotCopyCompatible { .. } => bare(33),
+            TransferError::MissingDownlevelFlags(_) => bare(34),
+            TransferError::InvalidSampleCount { sample_count } => counted(35, sample_count, 0, 0),
+            TransferError::SampleCountNotEqual {
+                src_sample_count,
+                dst_sample_count,
+            } => counted(36, src_sample_count, dst_sample_count, 0),
+            TransferError::InvalidMipLevel { .. } => bare(37),
+            TransferError::RegionSliceTooShort => bare(38),
+        }
     }
 }

@@ -1,5 +1,7 @@
 -- Where the range rule goes on.
 -- Assumes nothing.
+use Rattle.std.proofs.Common.{ap}
+use Rattle.std.specs.Prelude.{Ok}
 use Rattle.std.proofs.Common.{◌≡◌, ℕ, ◌+◌, ◌-◌, ◌%◌, ◌≤◌, Bool, true, false, not, ◌||◌, eqb, ltb, [], sym, refl, ◌∙◌, arith, ltb-false, le-ltb, eq-eqb, eqb-true, leb-false}
 use mathlib.Core.List.{flatten}
 use borrow.Author.Tests.{not-false, lt-leb}
@@ -13,7 +15,6 @@ use Rattle.formats.specs.Table.{block_dimensions}
 use Rattle.refusals.specs.declared.CopySide.{CopySide}
 use Rattle.refusals.specs.declared.TextureErrorDimension.{TextureErrorDimension}
 use Rattle.refusals.specs.declared.TextureErrorDimension.TheVariants.{X, Y, Z}
-use Rattle.refusals.specs.declared.TransferError.{TransferError}
 use Rattle.refusals.specs.Order.{first}
 use Rattle.refusals.proofs.Order.{first_of_all, clear, none_in, flat_empty, test_fails, test_off}
 use Rattle.records.specs.declared.Texture.{Texture}
@@ -21,8 +22,6 @@ use Rattle.records.specs.declared.TexelCopyTextureInfo.{TexelCopyTextureInfo}
 use Rattle.records.specs.Extents.{physical_extent}
 use Rattle.rule_copy_range.specs.declared.Subject.{Subject}
 use Rattle.rule_copy_range.specs.declared.CopyExtent.{CopyExtent}
-use Rattle.rule_copy_range.specs.declared.RangeChecked.{RangeChecked}
-use Rattle.rule_copy_range.specs.declared.RangeChecked.TheVariants as R
 use Rattle.rule_copy_range.specs.Range.{is_partial, overruns, dimension_checks, side_checks, block_checks, subject_of, requires_exact, copy_extent, layer_count_of, range_checks, range_checked}
 use Rattle.rule_copy_range.specs.Laws.{RangeLaws, EveryRange}
 
@@ -159,30 +158,27 @@ every_range view t side size = record { passes = range_passes view t side size; 
 
 -- ---- the same of the rule's answer
 
-no_answer : {e : TransferError} {v : CopyExtent} {n : ℕ} → R.Refused e ≡ R.GoOn v n → ⊥
-no_answer h = let z : ◌≡◌ {A = ℕ} 0 1 = cc in omega arith
-
 module _ (view : TexelCopyTextureInfo) (t : Texture) (side : CopySide) (size : Extent3d) where
-  abbrev given : RangeChecked
-  given = R.GoOn (copy_extent t size) (layer_count_of t size)
+  abbrev given : CopyExtent × ℕ
+  given = (copy_extent t size, layer_count_of t size)
 
-  first_found : range_checked view t side size ≡ first (flatten (range_checks view t side size)) R.Refused given
+  first_found : range_checked view t side size ≡ first (flatten (range_checks view t side size)) (Ok given)
   unfolding range_checked
-  first_found = first_of_all RangeChecked (range_checks view t side size) R.Refused given
+  first_found = first_of_all (CopyExtent × ℕ) (range_checks view t side size) (Ok given)
 
-  pub range_goes : RangeLaws view t size → range_checked view t side size ≡ given
+  pub range_goes : RangeLaws view t size → range_checked view t side size ≡ Ok given
   unfolding first
   range_goes r = first_found ∙ rw (range_passes view t side size r)
 
   pub range_went :
-      (v : CopyExtent) (n : ℕ) → range_checked view t side size ≡ R.GoOn v n
+      (v : CopyExtent) (n : ℕ) → range_checked view t side size ≡ Ok (v, n)
       → RangeLaws view t size × (copy_extent t size ≡ v) × (layer_count_of t size ≡ n)
   range_went v n h =
-      let c = clear RangeChecked R.Refused given (flatten (range_checks view t side size)) (R.GoOn v n) (sym h ∙ first_found) (λ e. no_answer) in
+      let c = clear (CopyExtent × ℕ) given (flatten (range_checks view t side size)) (v, n) (sym h ∙ first_found) in
       (range_holds view t side size c.0, alike c.1, alike_layers c.1)
     where
-      alike : R.GoOn v n ≡ given → copy_extent t size ≡ v
-      alike e = cc
+      alike : ◌≡◌ {A = CopyExtent × ℕ} (v, n) given → copy_extent t size ≡ v
+      alike e = sym (ap (λ (p : CopyExtent × ℕ). p.0) e)
 
-      alike_layers : R.GoOn v n ≡ given → layer_count_of t size ≡ n
-      alike_layers e = cc
+      alike_layers : ◌≡◌ {A = CopyExtent × ℕ} (v, n) given → layer_count_of t size ≡ n
+      alike_layers e = sym (ap (λ (p : CopyExtent × ℕ). p.1) e)

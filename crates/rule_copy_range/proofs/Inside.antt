@@ -1,5 +1,6 @@
 -- The test of a range holds exactly where the range rule goes on.
 -- Assumes nothing.
+use Rattle.std.specs.Prelude.{is_ok, Ok}
 use Rattle.std.proofs.Common.{◌≡◌, ℕ, ◌+◌, ◌%◌, ◌≤◌, Bool, true, false, ◌&&◌, eqb, ltb, List, [], ◌∷◌, sym, refl, ap, ◌∙◌, arith, ltb-true, lt-ltb, eq-eqb, eqb-true, le-leb, leb-true}
 use mathlib.Core.List.{flatten}
 use Rattle.conditions.proofs.Rules.{both_true}
@@ -14,12 +15,11 @@ use Rattle.refusals.proofs.Order.{first_of_all}
 use Rattle.records.specs.declared.Texture.{Texture}
 use Rattle.records.specs.declared.TexelCopyTextureInfo.{TexelCopyTextureInfo}
 use Rattle.records.specs.Extents.{physical_extent}
-use Rattle.rule_copy_range.specs.declared.RangeChecked.{RangeChecked}
-use Rattle.rule_copy_range.specs.declared.RangeChecked.TheVariants as R
-use Rattle.rule_copy_range.specs.Range.{requires_exact, copy_extent, layer_count_of, range_checks, range_checked, goes_on}
+use Rattle.rule_copy_range.specs.Range.{requires_exact, copy_extent, layer_count_of, range_checks, range_checked}
 use Rattle.rule_copy_range.specs.Laws.{RangeLaws}
 use Rattle.rule_copy_range.specs.Inside.{run_fits, sides_fit, blocks_fit, extent_fits, alignment_fits, in_range}
 use Rattle.rule_copy_range.proofs.Accepted.{every_range}
+use Rattle.rule_copy_range.specs.declared.CopyExtent.{CopyExtent}
 
 both_hold : (s t : Bool) → s ≡ true → t ≡ true → (s && t) ≡ true
 both_hold s t h k = rw (h, k)
@@ -114,14 +114,14 @@ module _ (view : TexelCopyTextureInfo) (t : Texture) (size : Extent3d) where
       rw (l, x, y, z, no_rest _ _ r.x_whole, no_rest _ _ r.y_whole, no_rest _ _ r.width_whole, no_rest _ _ r.height_whole)
 
   module _ (side : CopySide) where
-    goes_where : (b : Bool) → in_range view t size ≡ b → (found : List TransferError) → flatten (range_checks view t side size) ≡ found → b ≡ goes_on (first found R.Refused (R.GoOn (copy_extent t size) (layer_count_of t size)))
-    unfolding goes_on first
+    goes_where : (b : Bool) → in_range view t size ≡ b → (found : List TransferError) → flatten (range_checks view t side size) ≡ found → b ≡ is_ok (first {R = CopyExtent × ℕ} found (Ok (copy_extent t size, layer_count_of t size)))
+    unfolding first
     goes_where true h [] e = refl
     goes_where true h (why ∷ more) e = absurd (none_some why more (sym ((every_range view t side size).passes (laws_of h)) ∙ e))
     goes_where false h [] e = sym h ∙ of_laws ((every_range view t side size).holds e)
     goes_where false h (why ∷ more) e = refl
 
   -- an answer that is the test's, of whichever side
-  pub as_goes_on : (x : Bool) → x ≡ in_range view t size → (side : CopySide) → x ≡ goes_on (range_checked view t side size)
+  pub as_goes_on : (x : Bool) → x ≡ in_range view t size → (side : CopySide) → x ≡ is_ok (range_checked view t side size)
   unfolding range_checked
-  as_goes_on x e side = e ∙ goes_where side (in_range view t size) refl (flatten (range_checks view t side size)) refl ∙ sym (ap goes_on (first_of_all RangeChecked (range_checks view t side size) R.Refused (R.GoOn (copy_extent t size) (layer_count_of t size))))
+  as_goes_on x e side = e ∙ goes_where side (in_range view t size) refl (flatten (range_checks view t side size)) refl ∙ sym (ap is_ok (first_of_all (CopyExtent × ℕ) (range_checks view t side size) (Ok (copy_extent t size, layer_count_of t size))))

@@ -1,5 +1,5 @@
 -- The range of a copy within a texture.
-use Rattle.std.specs.Prelude.{ℕ, ◌+◌, ◌-◌, ◌%◌, ◌^◌, Bool, true, false, not, ◌&&◌, ◌||◌, [], ◌∷◌, ◌==◌, nat_le, nat_lt}
+use Rattle.std.specs.Prelude.{ℕ, ◌+◌, ◌-◌, ◌%◌, ◌^◌, Bool, false, not, ◌&&◌, ◌||◌, [], ◌∷◌, ◌==◌, nat_le, nat_lt, Result, Ok}
 use mathlib.Core.List.{flatten}
 use Rattle.measures.specs.declared.Texels.{Texels}
 use Rattle.measures.specs.declared.BlockDimensions.{BlockDimensions}
@@ -21,8 +21,6 @@ use Rattle.records.specs.declared.TexelCopyTextureInfo.{TexelCopyTextureInfo}
 use Rattle.records.specs.Extents.{physical_extent}
 use Rattle.rule_copy_range.specs.declared.Subject.{Subject}
 use Rattle.rule_copy_range.specs.declared.CopyExtent.{CopyExtent}
-use Rattle.rule_copy_range.specs.declared.RangeChecked.{RangeChecked}
-use Rattle.rule_copy_range.specs.declared.RangeChecked.TheVariants as R
 
 -- where a run of `size` from `start` ends, as a refusal has it: wrapped to 32 bits
 unfoldable pub end_of : ℕ → ℕ → ℕ
@@ -104,10 +102,5 @@ range_checks view t side size =
     ∷ []
 
 -- an accepted range gives the size of a region and the layers
-unfoldable pub range_checked : TexelCopyTextureInfo → Texture → CopySide → Extent3d → RangeChecked
-range_checked view t side size = decided (range_checks view t side size) R.Refused (R.GoOn (copy_extent t size) (layer_count_of t size))
-
--- the range is accepted
-unfoldable pub goes_on : RangeChecked → Bool
-goes_on (R.GoOn extent layers) = true
-goes_on (R.Refused e) = false
+unfoldable pub range_checked : TexelCopyTextureInfo → Texture → CopySide → Extent3d → Result (CopyExtent × ℕ) TransferError
+range_checked view t side size = decided (range_checks view t side size) (Ok ((copy_extent t size), (layer_count_of t size)))

@@ -1,18 +1,17 @@
 #![tactic(auto)]
 // The range of a copy within a texture: `validate_texture_copy_range` of command/transfer.rs.
-ghost use Rattle.std.specs.Prelude.{◌≡◌, ◌<◌, true};
+ghost use Rattle.std.specs.Prelude.{◌≡◌, is_ok};
 ghost use Rattle.formats.specs.Table.{block_dimensions};
 ghost use Rattle.refusals.specs.Order.{checked};
-ghost use Rattle.records.specs.Bounds.{texture_in_bounds};
 ghost use Rattle.records.specs.Extents.{physical_extent};
-ghost use Rattle.rule_copy_range.specs.Range.{end_of, is_partial, overruns, partial_transfer, texture_overrun, dimension_checks, side_checks, block_checks, requires_exact, subject_of, depth_of, layers_of, copy_extent, layer_count_of, range_checked, goes_on};
+ghost use Rattle.rule_copy_range.specs.Range.{end_of, is_partial, overruns, partial_transfer, texture_overrun, dimension_checks, side_checks, block_checks, requires_exact, subject_of, depth_of, layers_of, copy_extent, layer_count_of, range_checked};
 ghost use Rattle.rule_copy_range.specs.Inside.{run_fits, sides_fit, blocks_fit, extent_fits, alignment_fits};
 ghost use Rattle.rule_copy_range.specs.Laws.{EveryRange};
 
 use measures::{BlockDimensions, Extent3d, Origin3d, Texels};
 use mip_levels::TextureDimension;
-use records::{TexelCopyTextureInfo, Texture};
-use refusals::{Checked, CopySide, TextureErrorDimension, TransferError};
+use records::{CheckedTexture, TexelCopyTextureInfo, Texture};
+use refusals::{CopySide, TextureErrorDimension, TransferError};
 
 // What a refusal says of the texture.
 #[derive(Clone, Copy)]
@@ -30,19 +29,12 @@ pub struct CopyExtent {
     pub depth: u32,
 }
 
-// The size of one region and the number of layers, or the refusal.
-#[derive(Clone, Copy)]
-pub enum RangeChecked {
-    GoOn(CopyExtent, u32),
-    Refused(TransferError),
-}
-
 // Where a run ends, as a refusal has it.
 #[tactic(auto, unfolding(crate::specs::Range::end_of))]
 fn end_of(start: u32, size: u32) -> u64
     ensures { result ≡ end_of start size }
 {
-    std::num::wrapping_add_u32(start, size) as u64
+    start.wrapping_add(size) as u64
 }
 
 #[tactic(auto, unfolding(crate::specs::Range::is_partial))]
@@ -99,6 +91,7 @@ fn texture_overrun(
     }
 }
 
+#[tactic(auto, using(refusals::proofs::Order::ordered), unfolding(crate::specs::Range::dimension_checks, refusals::specs::Order::decided))]
 pub fn check_dimension(
     of: Subject,
     dimension: TextureErrorDimension,
@@ -106,78 +99,74 @@ pub fn check_dimension(
     size: Texels,
     limit: Texels,
     requires_exact_size: bool,
-) -> Checked
+) -> Result<(), TransferError>
     ensures { result ≡ checked (dimension_checks of dimension start size limit requires_exact_size) }
 {
     if is_partial(requires_exact_size, start.0, size.0, limit.0) {
-        return Checked::Refused(partial_transfer(of, dimension, start.0, size.0, limit.0));
+        return Err(partial_transfer(of, dimension, start.0, size.0, limit.0));
     }
     if is_overrun(start.0, size.0, limit.0) {
         let side = of.side;
-        return Checked::Refused(texture_overrun(side, dimension, start.0, size.0, limit.0));
+        return Err(texture_overrun(side, dimension, start.0, size.0, limit.0));
     }
-    Checked::GoOn
+    Ok(())
 }
 
 // On Z a slice or a layer counts as a texel.
-fn check_sides(of: Subject, o: Origin3d, size: Extent3d, extent: Extent3d, exact: bool) -> Checked
+#[tactic(auto, using(refusals::proofs::Order::ordered), unfolding(crate::specs::Range::side_checks, refusals::specs::Order::decided))]
+fn check_sides(
+    of: Subject,
+    o: Origin3d,
+    size: Extent3d,
+    extent: Extent3d,
+    exact: bool,
+) -> Result<(), TransferError>
     ensures { result ≡ checked (side_checks of o size extent exact) }
 {
-    let on_x = check_dimension(
+    check_dimension(
         of,
         TextureErrorDimension::X,
-        Texels(o.x.0),
-        Texels(size.width.0),
-        Texels(extent.width.0),
+        o.x,
+        size.width,
+        extent.width,
         exact,
-    );
-    if let Checked::Refused(why) = on_x {
-        return Checked::Refused(why);
-    }
-    let on_y = check_dimension(
+    )?;
+    check_dimension(
         of,
         TextureErrorDimension::Y,
-        Texels(o.y.0),
-        Texels(size.height.0),
-        Texels(extent.height.0),
+        o.y,
+        size.height,
+        extent.height,
         exact,
-    );
-    if let Checked::Refused(why) = on_y {
-        return Checked::Refused(why);
-    }
-    let on_z = check_dimension(
+    )?;
+    check_dimension(
         of,
         TextureErrorDimension::Z,
         Texels(o.z),
         Texels(size.depth_or_array_layers),
         Texels(extent.depth_or_array_layers),
         false,
-    );
-    if let Checked::Refused(why) = on_z {
-        return Checked::Refused(why);
-    }
-    Checked::GoOn
+    )?;
+    Ok(())
 }
 
-fn check_blocks(o: Origin3d, size: Extent3d, block: BlockDimensions) -> Checked
-    requires { (0 < block.width.0) × (0 < block.height.0) }
+#[tactic(auto, using(refusals::proofs::Order::ordered), unfolding(crate::specs::Range::block_checks, refusals::specs::Order::decided))]
+fn check_blocks(o: Origin3d, size: Extent3d, block: BlockDimensions) -> Result<(), TransferError>
     ensures { result ≡ checked (block_checks o size block) }
 {
-    let width = Texels(block.width.0);
-    let height = Texels(block.height.0);
-    if !Texels(o.x.0).is_multiple_of(width) {
-        return Checked::Refused(TransferError::UnalignedCopyOriginX);
+    if !o.x.is_multiple_of(block.width) {
+        return Err(TransferError::UnalignedCopyOriginX);
     }
-    if !Texels(o.y.0).is_multiple_of(height) {
-        return Checked::Refused(TransferError::UnalignedCopyOriginY);
+    if !o.y.is_multiple_of(block.height) {
+        return Err(TransferError::UnalignedCopyOriginY);
     }
-    if !Texels(size.width.0).is_multiple_of(width) {
-        return Checked::Refused(TransferError::UnalignedCopyWidth);
+    if !size.width.is_multiple_of(block.width) {
+        return Err(TransferError::UnalignedCopyWidth);
     }
-    if !Texels(size.height.0).is_multiple_of(height) {
-        return Checked::Refused(TransferError::UnalignedCopyHeight);
+    if !size.height.is_multiple_of(block.height) {
+        return Err(TransferError::UnalignedCopyHeight);
     }
-    Checked::GoOn
+    Ok(())
 }
 
 #[tactic(auto, unfolding(crate::specs::Range::requires_exact))]
@@ -243,47 +232,58 @@ pub fn array_layer_count(t: Texture, size: Extent3d) -> u32
     layers_of(dimension, size.depth_or_array_layers)
 }
 
-fn check_extent(view: TexelCopyTextureInfo, t: Texture, side: CopySide, size: Extent3d) -> Checked
-    requires { texture_in_bounds t ≡ true }
-    ensures { result ≡ checked (side_checks (subject_of t side) view.origin size (physical_extent t view.mip_level) (requires_exact t)) }
+fn check_extent(
+    view: TexelCopyTextureInfo,
+    t: CheckedTexture,
+    side: CopySide,
+    size: Extent3d,
+) -> Result<(), TransferError>
+    ensures { result ≡ checked (side_checks (subject_of t.texture side) view.origin size (physical_extent t.texture view.mip_level) (requires_exact t.texture)) }
 {
-    let origin = view.origin;
     let extent = records::physical_extent(t, view.mip_level);
-    check_sides(subject_of(t, side), origin, size, extent, requires_exact(t))
+    let texture = t.texture;
+    check_sides(
+        subject_of(texture, side),
+        view.origin,
+        size,
+        extent,
+        requires_exact(texture),
+    )
 }
 
-fn check_alignment(view: TexelCopyTextureInfo, t: Texture, size: Extent3d) -> Checked
-    ensures { result ≡ checked (block_checks view.origin size (block_dimensions t.format)) }
-{
-    let origin = view.origin;
-    let block = formats::block_dimensions(t.format);
-    check_blocks(origin, size, block)
-}
-
-pub fn validate_texture_copy_range(
+fn check_alignment(
     view: TexelCopyTextureInfo,
     t: Texture,
+    size: Extent3d,
+) -> Result<(), TransferError>
+    ensures { result ≡ checked (block_checks view.origin size (block_dimensions t.format)) }
+{
+    check_blocks(view.origin, size, formats::block_dimensions(t.format))
+}
+
+// The size of one region and the number of layers.
+#[tactic(auto, using(crate::proofs::Rules::range), unfolding(crate::specs::Range::range_checks, crate::specs::Range::range_checked, refusals::specs::Order::decided))]
+pub fn validate_texture_copy_range(
+    view: TexelCopyTextureInfo,
+    t: CheckedTexture,
     texture_side: CopySide,
     copy_size: Extent3d,
-) -> RangeChecked
-    requires { texture_in_bounds t ≡ true }
-    ensures { result ≡ range_checked view t texture_side copy_size }
+) -> Result<(CopyExtent, u32), TransferError>
+    ensures { result ≡ range_checked view t.texture texture_side copy_size }
 {
-    if view.mip_level >= t.mip_level_count {
-        return RangeChecked::Refused(TransferError::InvalidTextureMipLevel {
+    let texture = t.texture;
+    if view.mip_level >= texture.mip_level_count {
+        return Err(TransferError::InvalidTextureMipLevel {
             level: view.mip_level,
-            total: t.mip_level_count,
+            total: texture.mip_level_count,
         });
     }
-    let sides = check_extent(view, t, texture_side, copy_size);
-    if let Checked::Refused(why) = sides {
-        return RangeChecked::Refused(why);
-    }
-    let blocks = check_alignment(view, t, copy_size);
-    if let Checked::Refused(why) = blocks {
-        return RangeChecked::Refused(why);
-    }
-    RangeChecked::GoOn(copy_extent(t, copy_size), array_layer_count(t, copy_size))
+    check_extent(view, t, texture_side, copy_size)?;
+    check_alignment(view, texture, copy_size)?;
+    Ok((
+        copy_extent(texture, copy_size),
+        array_layer_count(texture, copy_size),
+    ))
 }
 
 // Whether a run lies inside its limit, and is all of it where it must be.
@@ -330,52 +330,46 @@ fn sides_fit(exact: bool, o: Origin3d, size: Extent3d, extent: Extent3d) -> bool
 // In one test, so that the whole is small enough for the compiler to inline on both sides of a copy.
 #[tactic(auto, unfolding(crate::specs::Inside::blocks_fit))]
 fn blocks_fit(o: Origin3d, size: Extent3d, block: BlockDimensions) -> bool
-    requires { (0 < block.width.0) × (0 < block.height.0) }
     ensures { result ≡ blocks_fit o size block }
 {
-    let width = Texels(block.width.0);
-    let height = Texels(block.height.0);
     conditions::both(
-        Texels(o.x.0).is_multiple_of(width),
+        o.x.is_multiple_of(block.width),
         conditions::all_three(
-            Texels(o.y.0).is_multiple_of(height),
-            Texels(size.width.0).is_multiple_of(width),
-            Texels(size.height.0).is_multiple_of(height),
+            o.y.is_multiple_of(block.height),
+            size.width.is_multiple_of(block.width),
+            size.height.is_multiple_of(block.height),
         ),
     )
 }
 
 #[tactic(auto, unfolding(crate::specs::Inside::extent_fits))]
-fn extent_fits(view: TexelCopyTextureInfo, t: Texture, size: Extent3d) -> bool
-    requires { texture_in_bounds t ≡ true }
-    ensures { result ≡ extent_fits view t size }
+fn extent_fits(view: TexelCopyTextureInfo, t: CheckedTexture, size: Extent3d) -> bool
+    ensures { result ≡ extent_fits view t.texture size }
 {
-    let origin = view.origin;
     let extent = records::physical_extent(t, view.mip_level);
-    sides_fit(requires_exact(t), origin, size, extent)
+    let texture = t.texture;
+    sides_fit(requires_exact(texture), view.origin, size, extent)
 }
 
 #[tactic(auto, unfolding(crate::specs::Inside::alignment_fits))]
 fn alignment_fits(view: TexelCopyTextureInfo, t: Texture, size: Extent3d) -> bool
     ensures { result ≡ alignment_fits view t size }
 {
-    let origin = view.origin;
-    let block = formats::block_dimensions(t.format);
-    blocks_fit(origin, size, block)
+    blocks_fit(view.origin, size, formats::block_dimensions(t.format))
 }
 
 // Whether `validate_texture_copy_range` goes on, for callers that make the refusal only where it is needed.
-pub fn is_in_range(view: TexelCopyTextureInfo, t: Texture, size: Extent3d) -> bool
-    requires { texture_in_bounds t ≡ true }
-    ensures { (side : CopySide) → result ≡ goes_on (range_checked view t side size) }
+pub fn is_in_range(view: TexelCopyTextureInfo, t: CheckedTexture, size: Extent3d) -> bool
+    ensures { (side : CopySide) → result ≡ is_ok (range_checked view t.texture side size) }
 {
-    if t.mip_level_count <= view.mip_level {
+    let texture = t.texture;
+    if texture.mip_level_count <= view.mip_level {
         return false;
     }
     if !extent_fits(view, t, size) {
         return false;
     }
-    alignment_fits(view, t, size)
+    alignment_fits(view, texture, size)
 }
 
 // Asks the check for the laws of an accepted range; nothing runs here.

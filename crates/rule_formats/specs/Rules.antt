@@ -1,8 +1,6 @@
 -- Which formats a copy with a buffer, or from memory, may read and write, and what it asks of a texture and a layout.
-use Rattle.std.specs.Prelude.{ℕ, Bool, true, false, ◌&&◌, ◌||◌, not, [], ◌∷◌, eqb}
+use Rattle.std.specs.Prelude.{ℕ, Bool, true, false, ◌&&◌, ◌||◌, not, [], ◌∷◌, eqb, Option, Some, None}
 use Rattle.conditions.specs.Conditions.{pick}
-use Rattle.measures.specs.declared.OptionU32.{OptionU32}
-use Rattle.measures.specs.declared.OptionU32.TheVariants.{Given, Absent}
 use Rattle.measures.specs.Measure.{multiple, or_else}
 use Rattle.flags.specs.Flags.{is_one}
 use Rattle.formats.specs.declared.TextureAspect.{TextureAspect}
@@ -41,9 +39,9 @@ unfoldable pub offset_alignment : ℕ → TextureAspect → ℕ
 offset_alignment format aspect = pick (is_depth_stencil format) 4 (or_else (block_copy_size format aspect) 1)
 
 -- given, and not a multiple of 256
-unfoldable pub is_unaligned_row : OptionU32 → Bool
-is_unaligned_row (Given n) = not (multiple n 256)
-is_unaligned_row Absent = false
+unfoldable pub is_unaligned_row : Option ℕ → Bool
+is_unaligned_row (Some n) = not (multiple n 256)
+is_unaligned_row None = false
 
 -- what is chosen is exactly one aspect, and the layout is aligned where alignment is asked for
 unfoldable pub layout_checks : TextureAspect → ℕ → Texture → TexelCopyBufferLayout → Bool → Checks

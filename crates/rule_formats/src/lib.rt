@@ -10,9 +10,8 @@ ghost use Rattle.rule_formats.specs.Rules.{is_depth_only, src_format_checks, dst
 
 use flags::FormatAspects;
 use formats::TextureAspect;
-use measures::OptionU32;
 use records::{TexelCopyBufferLayout, Texture};
-use refusals::{Checked, TransferError};
+use refusals::TransferError;
 
 // Bytes per row are a multiple of this.
 const COPY_BYTES_PER_ROW_ALIGNMENT: u32 = 256;
@@ -22,12 +21,8 @@ fn is_depth_only(aspect: TextureAspect) -> bool
     ensures { result ≡ is_depth_only aspect }
 {
     match aspect {
-        TextureAspect::All => false,
-        TextureAspect::StencilOnly => false,
         TextureAspect::DepthOnly => true,
-        TextureAspect::Plane0 => false,
-        TextureAspect::Plane1 => false,
-        TextureAspect::Plane2 => false,
+        _ => false,
     }
 }
 
@@ -40,19 +35,20 @@ fn is_src_depth(format: u32, aspect: TextureAspect) -> bool
     )
 }
 
-pub fn validate_texture_copy_src_format(format: u32, aspect: TextureAspect) -> Checked
+#[tactic(auto, using(refusals::proofs::Order::ordered), unfolding(crate::specs::Rules::src_format_checks, refusals::specs::Order::decided))]
+pub fn validate_texture_copy_src_format(
+    format: u32,
+    aspect: TextureAspect,
+) -> Result<(), TransferError>
     ensures { result ≡ checked (src_format_checks format aspect) }
 {
     if format == formats::DEPTH24_PLUS {
-        return Checked::Refused(TransferError::CopyFromForbiddenTextureFormat(format));
+        return Err(TransferError::CopyFromForbiddenTextureFormat(format));
     }
     if is_src_depth(format, aspect) {
-        return Checked::Refused(TransferError::CopyFromForbiddenTextureFormatAspect {
-            format,
-            aspect,
-        });
+        return Err(TransferError::CopyFromForbiddenTextureFormatAspect { format, aspect });
     }
-    Checked::GoOn
+    Ok(())
 }
 
 fn is_forbidden_dst(format: u32) -> bool
@@ -76,30 +72,27 @@ fn is_dst_depth(format: u32, aspect: TextureAspect) -> bool
     )
 }
 
-pub fn validate_texture_copy_dst_format(format: u32, aspect: TextureAspect) -> Checked
+#[tactic(auto, using(refusals::proofs::Order::ordered), unfolding(crate::specs::Rules::dst_format_checks, refusals::specs::Order::decided))]
+pub fn validate_texture_copy_dst_format(
+    format: u32,
+    aspect: TextureAspect,
+) -> Result<(), TransferError>
     ensures { result ≡ checked (dst_format_checks format aspect) }
 {
     if is_forbidden_dst(format) {
-        return Checked::Refused(TransferError::CopyToForbiddenTextureFormat(format));
+        return Err(TransferError::CopyToForbiddenTextureFormat(format));
     }
     if is_dst_depth(format, aspect) {
-        return Checked::Refused(TransferError::CopyToForbiddenTextureFormatAspect {
-            format,
-            aspect,
-        });
+        return Err(TransferError::CopyToForbiddenTextureFormatAspect { format, aspect });
     }
-    Checked::GoOn
+    Ok(())
 }
 
 fn block_alignment(format: u32, aspect: TextureAspect) -> u64
     ensures value { result ≡ or_else (block_copy_size format aspect) 1 }
     ensures some { 0 < result }
 {
-    let bytes = formats::block_copy_size(format, aspect);
-    if bytes == 0 {
-        return 1;
-    }
-    bytes as u64
+    measures::or_else(formats::block_copy_size(format, aspect), 1)
 }
 
 fn offset_alignment(format: u32, aspect: TextureAspect) -> u64
@@ -123,46 +116,47 @@ fn is_unaligned_offset(offset: u64, alignment: u64, aligned: bool) -> bool
 }
 
 #[tactic(auto, unfolding(crate::specs::Rules::is_unaligned_row, measures::specs::Measure::multiple))]
-fn is_unaligned_value(bytes_per_row: OptionU32) -> bool
+fn is_unaligned_value(bytes_per_row: Option<u32>) -> bool
     ensures { result ≡ is_unaligned_row bytes_per_row }
 {
     match bytes_per_row {
-        OptionU32::Given(n) => n % COPY_BYTES_PER_ROW_ALIGNMENT != 0,
-        OptionU32::Absent => false,
+        Some(n) => n % COPY_BYTES_PER_ROW_ALIGNMENT != 0,
+        None => false,
     }
 }
 
-fn is_unaligned_row(bytes_per_row: OptionU32, aligned: bool) -> bool
+fn is_unaligned_row(bytes_per_row: Option<u32>, aligned: bool) -> bool
     ensures { result ≡ (aligned && is_unaligned_row bytes_per_row) }
 {
     conditions::both(aligned, is_unaligned_value(bytes_per_row))
 }
 
 // `aspect` is the one asked for, `aspects` those chosen.
+#[tactic(auto, using(crate::proofs::Alignment::laid), unfolding(crate::specs::Rules::layout_checks, refusals::specs::Order::decided))]
 pub fn validate_texture_buffer_copy(
     aspect: TextureAspect,
     aspects: FormatAspects,
     t: Texture,
     layout: TexelCopyBufferLayout,
     aligned: bool,
-) -> Checked
+) -> Result<(), TransferError>
     ensures { result ≡ checked (layout_checks aspect aspects.0 t layout aligned) }
 {
     let bytes_per_row = layout.bytes_per_row;
     let alignment = offset_alignment(t.format, aspect);
     if t.sample_count != 1 {
-        return Checked::Refused(TransferError::InvalidSampleCount {
+        return Err(TransferError::InvalidSampleCount {
             sample_count: t.sample_count,
         });
     }
     if !aspects.is_one() {
-        return Checked::Refused(TransferError::CopyAspectNotOne);
+        return Err(TransferError::CopyAspectNotOne);
     }
     if is_unaligned_offset(layout.offset, alignment, aligned) {
-        return Checked::Refused(TransferError::UnalignedBufferOffset(layout.offset));
+        return Err(TransferError::UnalignedBufferOffset(layout.offset));
     }
     if is_unaligned_row(bytes_per_row, aligned) {
-        return Checked::Refused(TransferError::UnalignedBytesPerRow);
+        return Err(TransferError::UnalignedBytesPerRow);
     }
-    Checked::GoOn
+    Ok(())
 }

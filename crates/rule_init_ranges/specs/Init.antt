@@ -1,5 +1,5 @@
 -- The initialisation ranges of a copy, as the Rust reports them to its trackers. The trackers themselves are outside.
-use Rattle.std.specs.Prelude.{ℕ, ◌+◌, ◌*◌, ◌/◌, Bool, true, false, ◌||◌, not, List, [], ◌∷◌, eqb}
+use Rattle.std.specs.Prelude.{ℕ, ◌+◌, ◌*◌, ◌/◌, Bool, true, false, ◌||◌, not, List, [], ◌∷◌, eqb, Option, Some, None}
 use Rattle.conditions.specs.Conditions.{pick, stop_if, ◌$◌}
 use Rattle.measures.specs.declared.Extent3d.{Extent3d}
 use Rattle.measures.specs.declared.Range.{Range}
@@ -17,8 +17,6 @@ use Rattle.rule_init_ranges.specs.declared.MemoryInitKind.{MemoryInitKind}
 use Rattle.rule_init_ranges.specs.declared.MemoryInitKind.TheVariants.{ImplicitlyInitialized, NeedsInitializedMemory}
 use Rattle.rule_init_ranges.specs.declared.TextureInitRange.{TextureInitRange}
 use Rattle.rule_init_ranges.specs.declared.BufferInitRange.{BufferInitRange}
-use Rattle.rule_init_ranges.specs.declared.OptionRange.{OptionRange}
-use Rattle.rule_init_ranges.specs.declared.OptionRange.TheVariants.{Given, Absent}
 use Rattle.rule_init_ranges.specs.declared.BufferInitRanges.{BufferInitRanges}
 
 -- 0 implicitly initialised, 1 needs memory
@@ -89,17 +87,17 @@ abbrev pub buffer_range : ℕ → ℕ → MemoryInitKind → BufferInitRange
 buffer_range start end kind = record { start = start; end = end; kind = kind }
 
 -- a range, unless a test holds
-abbrev pub unless : Bool → BufferInitRange → OptionRange
-unless true r = Absent
-unless false r = Given r
+abbrev pub unless : Bool → BufferInitRange → Option BufferInitRange
+unless true r = None
+unless false r = Some r
 
 -- read, or written with padding between: the whole run, rounded outwards
 unfoldable pub outward : ℕ → ℕ → BufferInitRanges
 outward start end =
     record {
-      head = Absent;
-      whole = Given (buffer_range (aligned_down start) (aligned_up end) NeedsInitializedMemory);
-      tail = Absent;
+      head = None;
+      whole = Some (buffer_range (aligned_down start) (aligned_up end) NeedsInitializedMemory);
+      tail = None;
     }
 
 -- written without: the word that it starts within, the whole words, which may run backward, and the word that it ends within
@@ -122,9 +120,9 @@ buffer_init offset direction bytes contiguous =
     inward offset (offset + bytes)
 
 -- the ranges that are there, in order
-unfoldable pub joined : OptionRange → List BufferInitRange → List BufferInitRange
-joined Absent rest = rest
-joined (Given r) rest = r ∷ rest
+unfoldable pub joined : Option BufferInitRange → List BufferInitRange → List BufferInitRange
+joined None rest = rest
+joined (Some r) rest = r ∷ rest
 
 abbrev pub listed : BufferInitRanges → List BufferInitRange
 listed r = joined r.head (joined r.whole (joined r.tail []))

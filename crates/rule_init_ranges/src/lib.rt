@@ -32,28 +32,24 @@ pub struct BufferInitRange {
     pub kind: MemoryInitKind,
 }
 
-#[derive(Clone, Copy)]
-pub enum OptionRange {
-    Given(BufferInitRange),
-    Absent,
-}
-
 // Up to three ranges, in this order.
 #[derive(Clone, Copy)]
 pub struct BufferInitRanges {
-    pub head: OptionRange,
-    pub whole: OptionRange,
-    pub tail: OptionRange,
+    pub head: Option<BufferInitRange>,
+    pub whole: Option<BufferInitRange>,
+    pub tail: Option<BufferInitRange>,
 }
 
 // A kind as it is printed.
-#[tactic(auto, unfolding(crate::specs::Init::kind_number))]
-pub fn kind_number(kind: MemoryInitKind) -> u32
-    ensures { result ≡ kind_number kind }
-{
-    match kind {
-        MemoryInitKind::ImplicitlyInitialized => 0,
-        MemoryInitKind::NeedsInitializedMemory => 1,
+impl From<MemoryInitKind> for u32 {
+    ghost from_gives = { λ kind n. n ≡ kind_number kind };
+
+    #[tactic(auto, unfolding(crate::specs::Init::kind_number))]
+    fn from(kind: MemoryInitKind) -> u32 {
+        match kind {
+            MemoryInitKind::ImplicitlyInitialized => 0,
+            MemoryInitKind::NeedsInitializedMemory => 1,
+        }
     }
 }
 
@@ -63,11 +59,7 @@ fn is_all(aspect: TextureAspect) -> bool
 {
     match aspect {
         TextureAspect::All => true,
-        TextureAspect::StencilOnly => false,
-        TextureAspect::DepthOnly => false,
-        TextureAspect::Plane0 => false,
-        TextureAspect::Plane1 => false,
-        TextureAspect::Plane2 => false,
+        _ => false,
     }
 }
 
@@ -91,14 +83,10 @@ fn differ(a: Texels, b: Texels) -> bool
 fn size_differs(dimension: TextureDimension, size: Extent3d, level: Extent3d) -> bool
     ensures { result ≡ size_differs dimension size level }
 {
-    let width = size.width;
-    let height = size.height;
-    let level_width = level.width;
-    let level_height = level.height;
     conditions::either(
-        differ(width, level_width),
+        differ(size.width, level.width),
         conditions::either(
-            differ(height, level_height),
+            differ(size.height, level.height),
             depth_differs(
                 dimension,
                 size.depth_or_array_layers,
@@ -201,13 +189,13 @@ fn aligned_up(n: u64) -> u64
     (n + 3) / 4 * 4
 }
 
-fn range_unless(holds: bool, start: u64, end: u64, kind: MemoryInitKind) -> OptionRange
+fn range_unless(holds: bool, start: u64, end: u64, kind: MemoryInitKind) -> Option<BufferInitRange>
     ensures { result ≡ unless holds (buffer_range start end kind) }
 {
     if holds {
-        return OptionRange::Absent;
+        return None;
     }
-    OptionRange::Given(BufferInitRange { start, end, kind })
+    Some(BufferInitRange { start, end, kind })
 }
 
 #[tactic(auto, unfolding(crate::specs::Init::outward))]
@@ -222,9 +210,9 @@ fn outward_ranges(start: u64, end: u64) -> BufferInitRanges
         MemoryInitKind::NeedsInitializedMemory,
     );
     BufferInitRanges {
-        head: OptionRange::Absent,
+        head: None,
         whole,
-        tail: OptionRange::Absent,
+        tail: None,
     }
 }
 

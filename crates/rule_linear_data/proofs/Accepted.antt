@@ -1,5 +1,6 @@
 -- Where the rule of linear data goes on.
 -- Assumes nothing.
+use Rattle.std.specs.Prelude.{Option, Some, None, Ok}
 use mathlib.Core.Path.{◌≡◌, refl, sym, ◌∙◌}
 use mathlib.Core.Bool.{false, not}
 use mathlib.Core.List.{[], flatten}
@@ -10,32 +11,27 @@ use lib.Dec.{ltb}
 use borrow.Author.Tests.{lt-ltb, le-ltb, ltb-true, ltb-false, not-false}
 use Rattle.conditions.proofs.Rules.{not_no}
 use Rattle.measures.specs.declared.Extent3d.{Extent3d}
-use Rattle.measures.specs.declared.OptionU32.{OptionU32}
-use Rattle.measures.specs.declared.OptionU32.TheVariants.{Given, Absent}
 use Rattle.measures.specs.Measure.{or_else}
 use Rattle.formats.specs.declared.TextureAspect.{TextureAspect}
 use Rattle.refusals.specs.declared.CopySide.{CopySide}
-use Rattle.refusals.specs.declared.TransferError.{TransferError}
 use Rattle.refusals.specs.Order.{first}
 use Rattle.refusals.proofs.Order.{first_of_all, clear, none_in, flat_empty, test_fails, test_off}
 use Rattle.records.specs.declared.TexelCopyBufferLayout.{TexelCopyBufferLayout}
 use Rattle.rule_linear_data.specs.declared.Dense.{Dense}
 use Rattle.rule_linear_data.specs.declared.LinearData.{LinearData}
-use Rattle.rule_linear_data.specs.declared.LinearChecked.{LinearChecked}
-use Rattle.rule_linear_data.specs.declared.LinearChecked.TheVariants as L
 use Rattle.rule_linear_data.specs.Linear.{row_stride_of, image_stride_of, image_bytes_of, total_bytes, dense_of, linear_data, is_below, linear_checks, linear_checked}
 use Rattle.rule_linear_data.specs.Laws.{LinearLaws, EveryLinear}
 
 -- a given value is not below the dense one, which stands for an absent one
-not_below_lem : (o : OptionU32) (least : ℕ) → is_below o least ≡ false → least ≤ or_else o least
+not_below_lem : (o : Option ℕ) (least : ℕ) → is_below o least ≡ false → least ≤ or_else o least
 unfolding is_below or_else
-not_below_lem (Given n) least h = ltb-false n least h
-not_below_lem Absent least h = omega arith
+not_below_lem (Some n) least h = ltb-false n least h
+not_below_lem None least h = omega arith
 
-at_least : (o : OptionU32) (least : ℕ) → least ≤ or_else o least → is_below o least ≡ false
+at_least : (o : Option ℕ) (least : ℕ) → least ≤ or_else o least → is_below o least ≡ false
 unfolding is_below or_else
-at_least (Given n) least h = le-ltb n least h
-at_least Absent least h = refl
+at_least (Some n) least h = le-ltb n least h
+at_least None least h = refl
 
 module _ (layout : TexelCopyBufferLayout) (bufferSize : ℕ) (side : CopySide) (d : Dense) where
   abbrev T : ℕ
@@ -100,25 +96,19 @@ every_linear =
 
 -- ---- the same of the rule's answer
 
-no_answer : {e : TransferError} {m : LinearData} → L.Refused e ≡ L.GoOn m → ⊥
-no_answer h = let z : ◌≡◌ {A = ℕ} 0 1 = cc in omega arith
-
 module _ (layout : TexelCopyBufferLayout) (format : ℕ) (aspect : TextureAspect) (bufferSize : ℕ) (side : CopySide) (size : Extent3d) where
   abbrev d : Dense
   d = dense_of format aspect size
 
-  first_found : linear_checked layout format aspect bufferSize side size ≡ first (flatten (linear_checks layout bufferSize side d)) L.Refused (L.GoOn (linear_data layout d))
+  first_found : linear_checked layout format aspect bufferSize side size ≡ first (flatten (linear_checks layout bufferSize side d)) (Ok (linear_data layout d))
   unfolding linear_checked
-  first_found = first_of_all LinearChecked (linear_checks layout bufferSize side d) L.Refused (L.GoOn (linear_data layout d))
+  first_found = first_of_all LinearData (linear_checks layout bufferSize side d) (Ok (linear_data layout d))
 
-  pub linear_goes : LinearLaws layout bufferSize d → linear_checked layout format aspect bufferSize side size ≡ L.GoOn (linear_data layout d)
+  pub linear_goes : LinearLaws layout bufferSize d → linear_checked layout format aspect bufferSize side size ≡ Ok (linear_data layout d)
   unfolding first
   linear_goes l = first_found ∙ rw (linear_passes layout bufferSize side d l)
 
-  pub linear_went : (m : LinearData) → linear_checked layout format aspect bufferSize side size ≡ L.GoOn m → LinearLaws layout bufferSize d × (linear_data layout d ≡ m)
+  pub linear_went : (m : LinearData) → linear_checked layout format aspect bufferSize side size ≡ Ok m → LinearLaws layout bufferSize d × (linear_data layout d ≡ m)
   linear_went m h =
-      let c = clear LinearChecked L.Refused (L.GoOn (linear_data layout d)) (flatten (linear_checks layout bufferSize side d)) (L.GoOn m) (sym h ∙ first_found) (λ e. no_answer) in
-      (linear_holds layout bufferSize side d c.0, alike c.1)
-    where
-      alike : L.GoOn m ≡ L.GoOn (linear_data layout d) → linear_data layout d ≡ m
-      alike e = cc
+      let c = clear LinearData (linear_data layout d) (flatten (linear_checks layout bufferSize side d)) m (sym h ∙ first_found) in
+      (linear_holds layout bufferSize side d c.0, sym c.1)

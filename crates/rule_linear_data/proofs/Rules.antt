@@ -1,39 +1,34 @@
 -- How the checks of linear data go on after a sum was taken apart.
 -- Assumes nothing.
-use mathlib.Core.Path.{◌≡◌, ap}
+use Rattle.std.specs.Prelude.{Option, Some, None, Result, Ok, Err, IsErrAnd, ok_or}
+use mathlib.Core.Path.{◌≡◌, sym, ap, ◌∙◌}
 use mathlib.Core.Bool.{Bool, true, false}
 use Prim.Native.Nat.{ℕ, ◌^◌}
-use native.Mathlib.Omega.{arith}
 use lib.Dec.{ltb}
 use Rattle.conditions.specs.Conditions.{pick}
 use Rattle.conditions.proofs.Rules.{flag_lines}
 use Rattle.refusals.specs.declared.TransferError.TheVariants as E
-use Rattle.rule_linear_data.specs.declared.CheckedU64.{CheckedU64}
-use Rattle.rule_linear_data.specs.declared.CheckedU64.TheVariants.{Fits, Over}
+use Rattle.refusals.proofs.Order.{given_alike, handed_up, no_refusal, same_refusal, same_value}
 use Rattle.rule_linear_data.specs.declared.LinearData.{LinearData}
-use Rattle.rule_linear_data.specs.declared.LinearChecked.{LinearChecked}
-use Rattle.rule_linear_data.specs.declared.LinearChecked.TheVariants.{GoOn, Refused}
 use Rattle.rule_linear_data.specs.Stages.{fitting, below_2^64}
+use Rattle.refusals.specs.declared.TransferError.{TransferError}
 
-module _ (w : CheckedU64) (n : ℕ) (k : ℕ → LinearChecked) (x : LinearChecked) where
-  passes : (v : ℕ) (t : Bool) → w ≡ pick t (Fits n) Over → w ≡ Fits v → x ≡ k v → x ≡ pick t (k n) (Refused E.SizeOverflow)
-  passes v true p q h = let e : v ≡ n = cc in rw e at h
-  passes v false p q h = let z : ◌≡◌ {A = ℕ} 0 1 = cc in absurd (omega arith)
-
-  stops : (t : Bool) → w ≡ pick t (Fits n) Over → w ≡ Over → x ≡ Refused E.SizeOverflow → x ≡ pick t (k n) (Refused E.SizeOverflow)
-  stops true p q h = let z : ◌≡◌ {A = ℕ} 0 1 = cc in absurd (omega arith)
-  stops false p q h = h
-
-  pub whole_passes : (v : ℕ) → w ≡ fitting n → w ≡ Fits v → x ≡ k v → x ≡ below_2^64 n k
+-- a number that `?` took out of a sum, or its refusal
+module _ {w : Option ℕ} {r : Result ℕ TransferError} {x : Result LinearData TransferError} (n : ℕ) (k : ℕ → Result LinearData TransferError) where
+  pub whole_goes : {v : ℕ} → w ≡ fitting n → r ≡ ok_or w E.SizeOverflow → r ≡ Ok v → x ≡ k v → x ≡ below_2^64 n k
   unfolding fitting below_2^64
-  whole_passes v = passes v (ltb n (2 ^ 64))
+  whole_goes {v} p q g h = go (ltb n (2 ^ 64)) (sym g ∙ q ∙ ap (λ o. ok_or o E.SizeOverflow) p)
+    where
+      go : (t : Bool) → Ok v ≡ ok_or (pick t (Some n) None) E.SizeOverflow → x ≡ pick t (k n) (Err E.SizeOverflow)
+      go true e = h ∙ ap k (same_value e)
+      go false e = absurd (no_refusal (sym e))
 
-  pub whole_stops : w ≡ fitting n → w ≡ Over → x ≡ Refused E.SizeOverflow → x ≡ below_2^64 n k
+  pub whole_hands : {e : TransferError} → w ≡ fitting n → r ≡ ok_or w E.SizeOverflow → r ≡ Err e → IsErrAnd x (λ d. d ≡ e) → x ≡ below_2^64 n k
   unfolding fitting below_2^64
-  whole_stops = stops (ltb n (2 ^ 64))
+  whole_hands {e} p q g h = go (ltb n (2 ^ 64)) (sym g ∙ q ∙ ap (λ o. ok_or o E.SizeOverflow) p)
+    where
+      go : (t : Bool) → Err e ≡ ok_or (pick t (Some n) None) E.SizeOverflow → x ≡ pick t (k n) (Err E.SizeOverflow)
+      go true f = absurd (no_refusal f)
+      go false f = handed_up x e h ∙ ap Err (same_refusal f)
 
--- an answer that is made of what a function gave
-pub goes_on_alike : (v v' : LinearData) → v ≡ v' → GoOn v ≡ GoOn v'
-goes_on_alike v v' e = ap GoOn e
-
-pub ruleset sizes = (flag_lines, whole_passes, whole_stops, goes_on_alike)
+pub ruleset sizes = (flag_lines, given_alike)

@@ -1,9 +1,7 @@
 -- The bytes that a copy takes in a buffer, or in memory. Numbers are unbounded here: nothing wraps.
-use Rattle.std.specs.Prelude.{ℕ, ◌+◌, ◌-◌, ◌*◌, ◌^◌, Bool, false, ◌&&◌, ◌||◌, not, [], ◌∷◌, eqb, ltb}
+use Rattle.std.specs.Prelude.{ℕ, ◌+◌, ◌-◌, ◌*◌, ◌^◌, Bool, false, ◌&&◌, ◌||◌, not, [], ◌∷◌, eqb, ltb, Option, Some, None, Result, Ok}
 use Rattle.conditions.specs.Conditions.{pick}
 use Rattle.measures.specs.declared.Extent3d.{Extent3d}
-use Rattle.measures.specs.declared.OptionU32.{OptionU32}
-use Rattle.measures.specs.declared.OptionU32.TheVariants.{Given, Absent}
 use Rattle.measures.specs.Measure.{in_blocks, or_else}
 use Rattle.formats.specs.declared.TextureAspect.{TextureAspect}
 use Rattle.formats.specs.Table.{block_dimensions}
@@ -15,8 +13,7 @@ use Rattle.records.specs.declared.TexelCopyBufferLayout.{TexelCopyBufferLayout}
 use Rattle.rule_linear_data.specs.declared.Dense.{Dense}
 use Rattle.rule_linear_data.specs.declared.Span.{Span}
 use Rattle.rule_linear_data.specs.declared.LinearData.{LinearData}
-use Rattle.rule_linear_data.specs.declared.LinearChecked.{LinearChecked}
-use Rattle.rule_linear_data.specs.declared.LinearChecked.TheVariants.{GoOn, Refused}
+use Rattle.refusals.specs.declared.TransferError.{TransferError}
 
 -- ---- what is copied
 
@@ -80,14 +77,14 @@ linear_data layout d = data_of d (span_of (row_stride_of layout d) (image_stride
 -- ---- the checks
 
 -- given, and below
-unfoldable pub is_below : OptionU32 → ℕ → Bool
-is_below (Given n) least = ltb n least
-is_below Absent least = false
+unfoldable pub is_below : Option ℕ → ℕ → Bool
+is_below (Some n) least = ltb n least
+is_below None least = false
 
 -- absent where it has to be given
-unfoldable pub lacks : OptionU32 → Bool → Bool
-lacks (Given n) needed = false
-lacks Absent needed = needed
+unfoldable pub lacks : Option ℕ → Bool → Bool
+lacks (Some n) needed = false
+lacks None needed = needed
 
 abbrev pub reaches_2^64 : ℕ → Bool
 reaches_2^64 n = not (ltb n (2 ^ 64))
@@ -105,7 +102,7 @@ linear_checks layout bufferSize side d =
     ∷ refuse_if (ltb (bufferSize - layout.offset) (total_bytes layout d)) (E.BufferEndOffsetOverrun layout.offset (total_bytes layout d) bufferSize side)  -- 8
     ∷ []
 
-unfoldable pub linear_checked : TexelCopyBufferLayout → ℕ → TextureAspect → ℕ → CopySide → Extent3d → LinearChecked
+unfoldable pub linear_checked : TexelCopyBufferLayout → ℕ → TextureAspect → ℕ → CopySide → Extent3d → Result LinearData TransferError
 linear_checked layout format aspect bufferSize side size =
     let d = dense_of format aspect size in
-    decided (linear_checks layout bufferSize side d) Refused (GoOn (linear_data layout d))
+    decided (linear_checks layout bufferSize side d) (Ok (linear_data layout d))

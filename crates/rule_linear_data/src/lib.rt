@@ -7,16 +7,9 @@ ghost use Rattle.formats.specs.Laws.{max_block_bytes};
 ghost use Rattle.rule_linear_data.specs.Laws.{EveryLinear};
 
 use formats::TextureAspect;
-use measures::{Blocks, Extent3d, OptionU32};
+use measures::{Blocks, Extent3d};
 use records::TexelCopyBufferLayout;
 use refusals::{CopySide, TransferError};
-
-// A product or a sum, where 64 bits hold it.
-#[derive(Clone, Copy)]
-pub enum CheckedU64 {
-    Fits(u64),
-    Over,
-}
 
 // What is copied, with nothing between rows: the bytes of a row, the rows of blocks, the images.
 #[derive(Clone, Copy)]
@@ -42,64 +35,34 @@ pub struct LinearData {
     pub is_contiguous: bool,
 }
 
-#[derive(Clone, Copy)]
-pub enum LinearChecked {
-    GoOn(LinearData),
-    Refused(TransferError),
-}
-
-fn times(a: u64, b: u64) -> CheckedU64
-    ensures { result ≡ fitting (a * b) }
-{
-    if a == 0 {
-        return CheckedU64::Fits(0);
-    }
-    if b <= u64::MAX / a {
-        return CheckedU64::Fits(a * b);
-    }
-    CheckedU64::Over
-}
-
-fn plus(a: u64, b: u64) -> CheckedU64
-    ensures { result ≡ fitting (a + b) }
-{
-    if b <= u64::MAX - a {
-        return CheckedU64::Fits(a + b);
-    }
-    CheckedU64::Over
-}
-
-// A stride for each item but the last, and the last.
-fn stacked(items: u64, stride: u64, last: u64) -> CheckedU64
+// A stride for each item but the last, and the last, where 64 bits hold it.
+fn stacked(items: u64, stride: u64, last: u64) -> Option<u64>
     ensures { result ≡ fitting (stacked_of items stride last) }
 {
     if items == 0 {
-        return CheckedU64::Fits(0);
+        return Some(0);
     }
-    let product = times(items - 1, stride);
-    let CheckedU64::Fits(bytes) = product else {
-        return CheckedU64::Over;
-    };
-    plus(bytes, last)
+    let strides = (items - 1).checked_mul(stride)?;
+    strides.checked_add(last)
 }
 
 #[tactic(auto, unfolding(crate::specs::Linear::is_below))]
-fn is_below(value: OptionU32, least: u64) -> bool
+fn is_below(value: Option<u32>, least: u64) -> bool
     ensures { result ≡ is_below value least }
 {
     match value {
-        OptionU32::Given(n) => (n as u64) < least,
-        OptionU32::Absent => false,
+        Some(n) => (n as u64) < least,
+        None => false,
     }
 }
 
 #[tactic(auto, unfolding(crate::specs::Linear::lacks))]
-fn is_lacking(value: OptionU32, needed: bool) -> bool
+fn is_lacking(value: Option<u32>, needed: bool) -> bool
     ensures { result ≡ lacks value needed }
 {
     match value {
-        OptionU32::Given(_) => false,
-        OptionU32::Absent => needed,
+        Some(_) => false,
+        None => needed,
     }
 }
 
@@ -138,49 +101,48 @@ fn linear_data(d: Dense, s: Span) -> LinearData
     }
 }
 
+#[tactic(auto, using(crate::proofs::Rules::sizes), unfolding(crate::specs::Stages::placed))]
 fn check_span(
     layout: TexelCopyBufferLayout,
     buffer_size: u64,
     side: CopySide,
     d: Dense,
     s: Span,
-) -> LinearChecked
+) -> Result<LinearData, TransferError>
     ensures { result ≡ placed layout buffer_size side d s }
 {
-    let bytes_per_row = layout.bytes_per_row;
-    let rows_per_image = layout.rows_per_image;
-    if needs_bytes_per_row(bytes_per_row, d) {
-        return LinearChecked::Refused(TransferError::UnspecifiedBytesPerRow);
+    if needs_bytes_per_row(layout.bytes_per_row, d) {
+        return Err(TransferError::UnspecifiedBytesPerRow);
     }
-    if needs_rows_per_image(rows_per_image, d) {
-        return LinearChecked::Refused(TransferError::UnspecifiedRowsPerImage);
+    if needs_rows_per_image(layout.rows_per_image, d) {
+        return Err(TransferError::UnspecifiedRowsPerImage);
     }
     let offset = layout.offset;
     if offset > buffer_size {
-        return LinearChecked::Refused(TransferError::BufferStartOffsetOverrun {
+        return Err(TransferError::BufferStartOffsetOverrun {
             start_offset: offset,
             buffer_size,
             side,
         });
     }
     if s.total > buffer_size - offset {
-        return LinearChecked::Refused(TransferError::BufferEndOffsetOverrun {
+        return Err(TransferError::BufferEndOffsetOverrun {
             start_offset: offset,
             size: s.total,
             buffer_size,
             side,
         });
     }
-    LinearChecked::GoOn(linear_data(d, s))
+    Ok(linear_data(d, s))
 }
 
-fn needs_bytes_per_row(value: OptionU32, d: Dense) -> bool
+fn needs_bytes_per_row(value: Option<u32>, d: Dense) -> bool
     ensures { result ≡ lacks value (several_rows d) }
 {
     is_lacking(value, several_rows(d))
 }
 
-fn needs_rows_per_image(value: OptionU32, d: Dense) -> bool
+fn needs_rows_per_image(value: Option<u32>, d: Dense) -> bool
     ensures { result ≡ lacks value (several_images d) }
 {
     is_lacking(value, several_images(d))
@@ -193,33 +155,23 @@ fn measure(
     d: Dense,
     row_stride: u64,
     image_rows: u64,
-) -> LinearChecked
+) -> Result<LinearData, TransferError>
     ensures { result ≡ measured layout buffer_size side d row_stride image_rows }
 {
-    let stride = times(image_rows, row_stride);
-    let CheckedU64::Fits(image_stride) = stride else {
-        return LinearChecked::Refused(TransferError::SizeOverflow);
+    let image_stride = image_rows
+        .checked_mul(row_stride)
+        .ok_or(TransferError::SizeOverflow)?;
+    let image_bytes = stacked(d.rows.0 as u64, row_stride, d.row_bytes).ok_or(
+        TransferError::SizeOverflow,
+    )?;
+    let total = stacked(d.images, image_stride, image_bytes).ok_or(TransferError::SizeOverflow)?;
+    let span = Span {
+        row_stride,
+        image_stride,
+        image_bytes,
+        total,
     };
-    let image = stacked(d.rows.0 as u64, row_stride, d.row_bytes);
-    let CheckedU64::Fits(image_bytes) = image else {
-        return LinearChecked::Refused(TransferError::SizeOverflow);
-    };
-    let all = stacked(d.images, image_stride, image_bytes);
-    let CheckedU64::Fits(total) = all else {
-        return LinearChecked::Refused(TransferError::SizeOverflow);
-    };
-    check_span(
-        layout,
-        buffer_size,
-        side,
-        d,
-        Span {
-            row_stride,
-            image_stride,
-            image_bytes,
-            total,
-        },
-    )
+    check_span(layout, buffer_size, side, d, span)
 }
 
 // The dense values stand for those that are absent.
@@ -228,31 +180,28 @@ fn measure_given(
     buffer_size: u64,
     side: CopySide,
     d: Dense,
-) -> LinearChecked
+) -> Result<LinearData, TransferError>
     ensures { result ≡ measured layout buffer_size side d (row_stride_of layout d) (image_rows_of layout d) }
 {
-    let bytes_per_row = layout.bytes_per_row;
-    let rows_per_image = layout.rows_per_image;
-    let row_stride = measures::or_else(bytes_per_row, d.row_bytes);
-    let image_rows = measures::or_else(rows_per_image, d.rows.0 as u64);
+    let row_stride = measures::or_else(layout.bytes_per_row, d.row_bytes);
+    let image_rows = measures::or_else(layout.rows_per_image, d.rows.0 as u64);
     measure(layout, buffer_size, side, d, row_stride, image_rows)
 }
 
+#[tactic(auto, using(crate::proofs::Rules::sizes), unfolding(crate::specs::Stages::linear_staged))]
 fn check_linear(
     layout: TexelCopyBufferLayout,
     buffer_size: u64,
     side: CopySide,
     d: Dense,
-) -> LinearChecked
+) -> Result<LinearData, TransferError>
     ensures { result ≡ linear_staged layout buffer_size side d }
 {
-    let bytes_per_row = layout.bytes_per_row;
-    let rows_per_image = layout.rows_per_image;
-    if is_below(bytes_per_row, d.row_bytes) {
-        return LinearChecked::Refused(TransferError::InvalidBytesPerRow);
+    if is_below(layout.bytes_per_row, d.row_bytes) {
+        return Err(TransferError::InvalidBytesPerRow);
     }
-    if is_below(rows_per_image, d.rows.0 as u64) {
-        return LinearChecked::Refused(TransferError::InvalidRowsPerImage);
+    if is_below(layout.rows_per_image, d.rows.0 as u64) {
+        return Err(TransferError::InvalidRowsPerImage);
     }
     measure_given(layout, buffer_size, side, d)
 }
@@ -261,22 +210,17 @@ fn block_bytes(format: u32, aspect: TextureAspect) -> u64
     ensures value { result ≡ block_bytes format aspect }
     ensures few { result ≤ max_block_bytes }
 {
-    formats::block_copy_size(format, aspect) as u64
+    measures::or_else(formats::block_copy_size(format, aspect), 0)
 }
 
 fn dense_of(format: u32, aspect: TextureAspect, size: Extent3d) -> Dense
     ensures { result ≡ dense_of format aspect size }
 {
     let block = formats::block_dimensions(format);
-    let width = size.width;
-    let height = size.height;
-    let block_width_texels = block.width;
-    let block_height_texels = block.height;
-    let width_blocks = width.in_blocks(block_width_texels);
-    let height_blocks = height.in_blocks(block_height_texels);
+    let width_blocks = size.width.in_blocks(block.width);
     Dense {
         row_bytes: (width_blocks.0 as u64) * block_bytes(format, aspect),
-        rows: height_blocks,
+        rows: size.height.in_blocks(block.height),
         images: size.depth_or_array_layers as u64,
     }
 }
@@ -288,7 +232,7 @@ pub fn validate_linear_texture_data(
     buffer_size: u64,
     buffer_side: CopySide,
     copy_size: Extent3d,
-) -> LinearChecked
+) -> Result<LinearData, TransferError>
     ensures { result ≡ linear_checked layout format aspect buffer_size buffer_side copy_size }
 {
     check_linear(

@@ -1,5 +1,5 @@
 -- The part of a texture that a copy selects, and copies within one texture.
-use Rattle.std.specs.Prelude.{ℕ, ◌+◌, ◌%◌, ◌^◌, Bool, [], ◌∷◌, ◌==◌, nat_lt}
+use Rattle.std.specs.Prelude.{ℕ, ◌+◌, ◌%◌, ◌^◌, Bool, [], ◌∷◌, ◌==◌, nat_lt, Result, Ok}
 use Rattle.conditions.specs.Conditions.{every}
 use Rattle.measures.specs.declared.Extent3d.{Extent3d}
 use Rattle.measures.specs.declared.Range.{Range}
@@ -14,8 +14,7 @@ use Rattle.records.specs.declared.Texture.{Texture}
 use Rattle.records.specs.declared.TexelCopyTextureInfo.{TexelCopyTextureInfo}
 use Rattle.rule_selectors.specs.declared.TextureSelector.{TextureSelector}
 use Rattle.rule_selectors.specs.declared.TextureCopyBase.{TextureCopyBase}
-use Rattle.rule_selectors.specs.declared.SelectorChecked.{SelectorChecked}
-use Rattle.rule_selectors.specs.declared.SelectorChecked.TheVariants.{GoOn, Refused}
+use Rattle.refusals.specs.declared.TransferError.{TransferError}
 
 abbrev pub range : ℕ → ℕ → Range
 range start end = record { start = start; end = end }
@@ -70,9 +69,9 @@ selector_checks view t =
     refuse_if (chosen_aspects t.format view.aspect == 0) (E.InvalidTextureAspect t.format view.aspect)  -- 12
     ∷ []
 
-unfoldable pub selector_checked : TexelCopyTextureInfo → Texture → Extent3d → SelectorChecked
+unfoldable pub selector_checked : TexelCopyTextureInfo → Texture → Extent3d → Result (TextureSelector × TextureCopyBase) TransferError
 selector_checked view t size =
-    decided (selector_checks view t) Refused (GoOn (selector_of view t size) (base_of view t (chosen_aspects t.format view.aspect)))
+    decided (selector_checks view t) (Ok ((selector_of view t size), (base_of view t (chosen_aspects t.format view.aspect))))
 
 -- chosen aspects meet, the level is the same, and each z is below the other z plus the layers
 unfoldable pub overlaps : TexelCopyTextureInfo → TexelCopyTextureInfo → ℕ → ℕ → Bool

@@ -8,7 +8,7 @@ use flags::FormatAspects;
 use measures::{Extent3d, Origin3d, Range};
 use mip_levels::TextureDimension;
 use records::{TexelCopyTextureInfo, Texture};
-use refusals::{Checked, TransferError};
+use refusals::TransferError;
 
 // The levels and layers that a copy selects.
 #[derive(Clone, Copy)]
@@ -24,12 +24,6 @@ pub struct TextureCopyBase {
     pub array_layer: u32,
     pub origin: Origin3d,
     pub aspect: FormatAspects,
-}
-
-#[derive(Clone, Copy)]
-pub enum SelectorChecked {
-    GoOn(TextureSelector, TextureCopyBase),
-    Refused(TransferError),
 }
 
 fn layer_of(dimension: TextureDimension, z: u32) -> u32
@@ -114,7 +108,7 @@ pub fn next_layer(b: TextureCopyBase) -> TextureCopyBase
     let aspect = b.aspect;
     TextureCopyBase {
         mip_level: b.mip_level,
-        array_layer: std::num::wrapping_add_u32(b.array_layer, 1),
+        array_layer: b.array_layer.wrapping_add(1),
         origin,
         aspect,
     }
@@ -124,18 +118,18 @@ pub fn extract_texture_selector(
     view: TexelCopyTextureInfo,
     copy_size: Extent3d,
     t: Texture,
-) -> SelectorChecked
+) -> Result<(TextureSelector, TextureCopyBase), TransferError>
     ensures { result ≡ selector_checked view t copy_size }
 {
     let aspect = view.aspect;
     let aspects = formats::chosen_aspects(t.format, aspect);
     if aspects.0 == 0 {
-        return SelectorChecked::Refused(TransferError::InvalidTextureAspect {
+        return Err(TransferError::InvalidTextureAspect {
             format: t.format,
             aspect,
         });
     }
-    SelectorChecked::GoOn(selector_of(view, t, copy_size), base_of(view, t, aspects))
+    Ok((selector_of(view, t, copy_size), base_of(view, t, aspects)))
 }
 
 // Whether a z lies below another plus a count of layers.
@@ -170,12 +164,13 @@ fn is_overlap(
     )
 }
 
+#[tactic(auto, using(refusals::proofs::Order::ordered), unfolding(crate::specs::Selector::same_texture_checks, refusals::specs::Order::decided))]
 pub fn validate_copy_within_same_texture(
     src: TexelCopyTextureInfo,
     dst: TexelCopyTextureInfo,
     format: u32,
     array_layer_count: u32,
-) -> Checked
+) -> Result<(), TransferError>
     ensures { result ≡ checked (same_texture_checks src dst format array_layer_count) }
 {
     if is_overlap(src, dst, format, array_layer_count) {
@@ -183,7 +178,7 @@ pub fn validate_copy_within_same_texture(
         let dst_aspects = dst.aspect;
         let src_origin = src.origin;
         let dst_origin = dst.origin;
-        return Checked::Refused(TransferError::InvalidCopyWithinSameTexture {
+        return Err(TransferError::InvalidCopyWithinSameTexture {
             src_aspects,
             dst_aspects,
             src_origin_z: src_origin.z,
@@ -191,5 +186,5 @@ pub fn validate_copy_within_same_texture(
             array_layer_count,
         });
     }
-    Checked::GoOn
+    Ok(())
 }

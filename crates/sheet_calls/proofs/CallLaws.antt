@@ -1,15 +1,17 @@
 -- Bytes that are written call by call.
 -- Assumes nothing.
-use mathlib.Core.Path.{◌≡◌, refl, sym, ap, ◌∙◌}
+use mathlib.Core.Path.{◌≡◌, sym, ap, ◌∙◌}
 use mathlib.Core.Bool.{Bool, true, false, not}
 use mathlib.Core.List.{List, []}
-use Prim.Native.Nat.{ℕ, ◌-◌, ◌≤◌, ◌<◌}
+use Prim.Native.Nat.{ℕ, ◌≤◌, ◌<◌}
 use native.Mathlib.Omega.{arith}
-use lib.ListN.{length, take, drop, length-drop}
-use lib.Seq.{length-take-le, take_all}
+use lib.ListN.{length}
 use borrow.Rule.Slice.PartMut.{mid_of, put_mid, same_len_mid}
+use Prim.{tt}
+use Rattle.std.specs.Prelude.{Result, Ok, Err, IsErr, is_ok}
+use Rattle.sheet_calls.specs.declared.Received.{Received}
 use Rattle.sheet_io.specs.declared.Progress.{Progress}
-use Rattle.sheet_io.specs.Progress.{written_of, got_of, start_of, goes_on, place_of}
+use Rattle.sheet_io.specs.Progress.{written_of, got_of, has_failed, start_of, goes_on, place_of}
 use Rattle.sheet_io.specs.Output.{Writes, none, call, calls_left}
 use Rattle.sheet_io.proofs.OutputProofs.{output_laws}
 use Rattle.sheet_calls.specs.Calls as R
@@ -26,30 +28,26 @@ pub record Sending (bytes : List ℕ) (p : Progress) : Type 0 where
   pub onto : (taken : List ℕ) (q : Progress) → Writes bytes p taken q → Reached bytes q
 
 module _ (bytes : List ℕ) (p : Progress) where
-  pub sending_starts : p ≡ start_of (length bytes) → Sending bytes p
-  unfolding start_of
-  sending_starts e = record { left = rw e (omega arith); onto = λ taken q w. record { taken = taken; writes = rw (← e) w } }
-
   module _ (inv : Sending bytes p) where
     pub sending_on : (t : Bool) (r : Progress) → t ≡ goes_on p → t ≡ true → Wrote p r → Sending bytes r
     sending_on t r test go w =
-        let fewer = output_laws.fewer p (written_of w.count w.failed w.passes) in
+        let fewer = output_laws.fewer p (written_of w.outcome) in
         record {
           left = rw w.after (omega (arith, inv.left, fewer));
-          onto = λ taken q ws. inv.onto _ q (call {rest = taken} (sym test ∙ go) w.count w.failed w.passes (rw (← w.after) ws));
+          onto = λ taken q ws. inv.onto _ q (call {rest = taken} (sym test ∙ go) w.outcome (rw (← w.after) ws));
         }
 
-    pub sending_ends : (t whole : Bool) → t ≡ goes_on p → t ≡ false → whole ≡ not p.failed → Sends bytes whole
+    pub sending_ends : (t whole : Bool) → t ≡ goes_on p → t ≡ false → whole ≡ not (has_failed p.stage) → Sends bytes whole
     sending_ends t whole test stop told =
         let r = inv.onto [] p none in
         record { taken = r.taken; last = p; writes = r.writes; ended = sym test ∙ stop; told = told }
 
 module _ (p : Progress) (t : Bool) (r : Progress) (test : t ≡ goes_on p) (go : t ≡ true) where
   pub sending_less : Wrote p r → calls_left r < calls_left p
-  sending_less w = rw w.after (output_laws.writes_end p w.count w.failed w.passes (sym test ∙ go))
+  sending_less w = rw w.after (output_laws.writes_end p w.outcome (sym test ∙ go))
 
   pub receiving_less : Got p r → calls_left r < calls_left p
-  receiving_less w = rw w.after (output_laws.reads_end p w.count w.failed w.passes (sym test ∙ go))
+  receiving_less w = rw w.after (output_laws.reads_end p w.outcome (sym test ∙ go))
 
 -- bytes that are read call by call: the room keeps its length, no more of it is left, and whatever calls follow, they follow others that began
 -- at the start
@@ -58,43 +56,19 @@ pub record Receiving (room₀ room : List ℕ) (p : Progress) : Type 0 where
   pub left : p.left ≤ length room
   pub onto : (q : Progress) → R.Reads p q → R.Reads (start_of (length room₀)) q
 
-pub receiving_starts : (room : List ℕ) (p : Progress) → p ≡ start_of (length room) → Receiving room room p
-unfolding start_of
-receiving_starts room p e = record { same = refl; left = rw e (omega arith); onto = λ q w. rw (← e) w }
-
 pub receiving_on :
     {room₀ room : List ℕ} {p r : Progress} (from k : ℕ) (got : List ℕ) (t : Bool) → Receiving room₀ room p → t ≡ goes_on p → t ≡ true → Got p r
     → length got ≡ length (mid_of from k room) → Receiving room₀ (put_mid from k room got) r
 receiving_on {room₀} {room} {p} {r} from k got t i test go w e =
     let n : length (put_mid from k room got) ≡ length room = same_len_mid from k room got e in
-    let fewer : r.left ≤ p.left = rw w.after (output_laws.fewer p (got_of w.count w.failed w.passes)) in
+    let fewer : r.left ≤ p.left = rw w.after (output_laws.fewer p (got_of w.outcome)) in
     record {
       same = n ∙ i.same;
       left = omega (arith, i.left);
-      onto = λ q ws. i.onto q (R.call (sym test ∙ go) w.count w.failed w.passes (rw (← w.after) ws));
+      onto = λ q ws. i.onto q (R.call (sym test ∙ go) w.outcome (rw (← w.after) ws));
     }
 
-pub place_fits : (n from : ℕ) (p : Progress) → from ≡ place_of n p → from ≤ n
-unfolding place_of
-place_fits n from p e = omega arith
-
-room_rest : (room : List ℕ) (p : Progress) (from : ℕ) → p.left ≤ length room → from ≡ place_of (length room) p → length (take (length room - from) (drop from room)) ≡ p.left
-unfolding place_of
-room_rest room p from few e =
-    let n : length (drop from room) ≡ length room - from = length-drop from room in
-    length-take-le (length room - from) (drop from room) (omega arith) ∙ omega arith
-
--- what a write is handed: the bytes from the place on
-pub sending_rest : {bytes : List ℕ} {p : Progress} (from : ℕ) → Sending bytes p → from ≡ place_of (length bytes) p → take (length bytes - from) (drop from bytes) ≡ drop (place_of (length bytes) p) bytes
-sending_rest {bytes} {p} from i e =
-    let n : length (drop from bytes) ≡ length bytes - from = length-drop from bytes in
-    take_all (length bytes - from) (drop from bytes) (omega arith) ∙ ap (λ (k : ℕ). drop k bytes) e
-
-pub receiving_rest : {room₀ room : List ℕ} {p : Progress} (from : ℕ) → Receiving room₀ room p → from ≡ place_of (length room) p → length (take (length room - from) (drop from room)) ≡ p.left
-receiving_rest {room₀} {room} {p} from i e = room_rest room p from i.left e
-
-pub receives :
-    {room₀ room : List ℕ} {p : Progress} (t : Bool) (count : ℕ) → Receiving room₀ room p → t ≡ goes_on p → t ≡ false → count ≡ place_of (length room) p
-    → Receives (length room₀) (record { count = count; failed = p.failed })
-receives {room₀} {room} {p} t count i test stop is =
-    record { last = p; reads = i.onto p R.none; ended = sym test ∙ stop; count = is ∙ ap (λ (n : ℕ). place_of n p) i.same; failed = refl }
+module _ {room₀ room : List ℕ} {p : Progress} (t : Bool) (i : Receiving room₀ room p) (test : t ≡ goes_on p) (stop : t ≡ false) where
+  pub received : (r : Received) → r.count ≡ place_of (length room) p → is_ok r.outcome ≡ not (has_failed p.stage) → Receives (length room₀) r
+  received r is told =
+      record { last = p; reads = i.onto p R.none; ended = sym test ∙ stop; count = is ∙ ap (λ (n : ℕ). place_of n p) i.same; told = told }

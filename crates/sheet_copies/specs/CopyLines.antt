@@ -1,6 +1,6 @@
 -- A copy line and the records that it names: an index past its section is 1, before the records; else the copy's answer.
 -- The sheet is its bytes s; a section's records are found by the places where their lines begin.
-use Rattle.std.specs.Prelude.{ℕ, ◌+◌, Bool, List, [], ◌∷◌, eqb, leb, length, get_or}
+use Rattle.std.specs.Prelude.{ℕ, ◌+◌, Bool, List, [], ◌∷◌, eqb, leb, length, get_or, Result}
 use Rattle.conditions.specs.Conditions.{pick, ◌$◌}
 use Rattle.refusals.specs.declared.TransferError.TheVariants.{InvalidSheetIndex}
 use Rattle.refusals.specs.Order.{Checks, refuse_if, decided}
@@ -8,12 +8,13 @@ use Rattle.records.specs.declared.Buffer.{Buffer}
 use Rattle.records.specs.declared.Device.{Device}
 use Rattle.records.specs.declared.Texture.{Texture}
 use Rattle.records.specs.declared.TextureSide.{TextureSide}
-use Rattle.copy_kinds.specs.declared.Planned.{Planned}
-use Rattle.copy_kinds.specs.declared.Planned.TheVariants as P
 use Rattle.copy_kinds.specs.Planned.{planned_buffers, planned_upload, planned_memory_upload, planned_download, planned_textures}
 use Rattle.sheet_fields.specs.declared.Line.{Line}
 use Rattle.sheet_sections.specs.Rows.{textures, buffers, section_line}
 use Rattle.sheet_records.specs.Records.{value_of, word_of, size_of, extent_of, texture_of, buffer_of, view_of, layout_of}
+use Rattle.copy_kinds.specs.declared.Ranges.{Ranges}
+use Rattle.plan_kinds.specs.declared.Plan.{Plan}
+use Rattle.refusals.specs.declared.TransferError.{TransferError}
 
 unfoldable pub texture_at : List ℕ → List ℕ → ℕ → Texture
 texture_at s places k = texture_of (section_line s textures (get_or places k 0))
@@ -39,38 +40,38 @@ index_checks of k others j =
     ∷ []
 
 -- `1 src offset dst offset size`
-unfoldable pub named_buffers : List ℕ → List ℕ → Device → Line → Planned
+unfoldable pub named_buffers : List ℕ → List ℕ → Device → Line → Result (Plan × Ranges) TransferError
 named_buffers s bs device l =
     planned_buffers device (word_of l 1) (buffer_at s bs (word_of l 1)) (value_of l 2) (word_of l 3) (buffer_at s bs (word_of l 3)) (value_of l 4) (size_of l)
 
-unfoldable pub buffers_planned : List ℕ → List ℕ → Device → Line → Planned
-buffers_planned s bs device l = decided (index_checks bs (word_of l 1) bs (word_of l 3)) P.Refused (named_buffers s bs device l)
+unfoldable pub buffers_planned : List ℕ → List ℕ → Device → Line → Result (Plan × Ranges) TransferError
+buffers_planned s bs device l = decided (index_checks bs (word_of l 1) bs (word_of l 3)) (named_buffers s bs device l)
 
 -- `2` or `3 buffer offset bytes rows texture level x y z aspect w h d`
-unfoldable pub named_copy : List ℕ → List ℕ → List ℕ → Device → Line → Planned
+unfoldable pub named_copy : List ℕ → List ℕ → List ℕ → Device → Line → Result (Plan × Ranges) TransferError
 named_copy s ts bs device l =
     pick (eqb (value_of l 0) 2) (planned_upload device (word_of l 1) (buffer_at s bs (word_of l 1)) (layout_of l) (word_of l 5) (texture_at s ts (word_of l 5)) (view_of l 6) (extent_of l 11)) $
     planned_download device (word_of l 5) (texture_at s ts (word_of l 5)) (view_of l 6) (word_of l 1) (buffer_at s bs (word_of l 1)) (layout_of l) (extent_of l 11)
 
-unfoldable pub copy_planned : List ℕ → List ℕ → List ℕ → Device → Line → Planned
-copy_planned s ts bs device l = decided (index_checks bs (word_of l 1) ts (word_of l 5)) P.Refused (named_copy s ts bs device l)
+unfoldable pub copy_planned : List ℕ → List ℕ → List ℕ → Device → Line → Result (Plan × Ranges) TransferError
+copy_planned s ts bs device l = decided (index_checks bs (word_of l 1) ts (word_of l 5)) (named_copy s ts bs device l)
 
 -- `5 length offset bytes rows texture level x y z aspect w h d`: no buffer is named
-unfoldable pub named_memory : List ℕ → List ℕ → Device → Line → Planned
+unfoldable pub named_memory : List ℕ → List ℕ → Device → Line → Result (Plan × Ranges) TransferError
 named_memory s ts device l = planned_memory_upload device (value_of l 1) (layout_of l) (word_of l 5) (texture_at s ts (word_of l 5)) (view_of l 6) (extent_of l 11)
 
-unfoldable pub memory_planned : List ℕ → List ℕ → Device → Line → Planned
-memory_planned s ts device l = decided (refuse_if (past ts (word_of l 5)) InvalidSheetIndex ∷ []) P.Refused (named_memory s ts device l)  -- 1
+unfoldable pub memory_planned : List ℕ → List ℕ → Device → Line → Result (Plan × Ranges) TransferError
+memory_planned s ts device l = decided (refuse_if (past ts (word_of l 5)) InvalidSheetIndex ∷ []) (named_memory s ts device l)  -- 1
 
 -- `4`, then texture, level, x, y, z, aspect twice, then w h d
-unfoldable pub named_textures : List ℕ → List ℕ → Line → Planned
+unfoldable pub named_textures : List ℕ → List ℕ → Line → Result (Plan × Ranges) TransferError
 named_textures s ts l = planned_textures (word_of l 1) (texture_side_at s ts l 1) (word_of l 7) (texture_side_at s ts l 7) (extent_of l 13)
 
-unfoldable pub textures_planned : List ℕ → List ℕ → Line → Planned
-textures_planned s ts l = decided (index_checks ts (word_of l 1) ts (word_of l 7)) P.Refused (named_textures s ts l)
+unfoldable pub textures_planned : List ℕ → List ℕ → Line → Result (Plan × Ranges) TransferError
+textures_planned s ts l = decided (index_checks ts (word_of l 1) ts (word_of l 7)) (named_textures s ts l)
 
 -- by the line's kind
-unfoldable pub line_planned : List ℕ → List ℕ → List ℕ → Device → Line → Planned
+unfoldable pub line_planned : List ℕ → List ℕ → List ℕ → Device → Line → Result (Plan × Ranges) TransferError
 line_planned s ts bs device l =
     pick (eqb (value_of l 0) 1) (buffers_planned s bs device l) $
     pick (eqb (value_of l 0) 4) (textures_planned s ts l) $

@@ -1,158 +1,139 @@
--- A value that was read is within its code's bounds; an absent one may be absent.
+-- A value that was read is within the bounds of its kind; an absent one may be absent.
 -- Assumes nothing.
 use mathlib.Core.Path.{◌≡◌, refl, sym, ap, ◌∙◌}
 use mathlib.Core.Bool.{Bool, true, false, ◌&&◌}
 use mathlib.Core.List.{List, [], ◌∷◌}
-use mathlib.Core.Logic.{◌⊎◌, inl, inr, ⊎_elim}
-use Prim.Native.Nat.{ℕ, zero, suc, ◌<◌, ◌-◌, ◌^◌, ◌≤◌}
+use Prim.Native.Nat.{ℕ, zero, suc, ◌<◌, ◌≤◌}
 use native.Mathlib.Omega.{arith}
 use borrow.Author.Tests.{leb-true, ltb-false}
 use lib.Dec.{leb}
 use lib.ListN.{drop, length, get_or, replicate}
 use Rattle.conditions.specs.Conditions.{pick, stop_if}
 use Rattle.conditions.proofs.Rules.{went_past, both_true}
-use Rattle.sheet_fields.specs.declared.Number.{Number}
-use Rattle.sheet_fields.specs.declared.Number.TheVariants as N
+use Rattle.std.proofs.lemmas.Option.{none-some, same_Some}
+use lib.Seq.{sets}
+use Rattle.std.specs.Prelude.{Option, None, Some, IsSomeAnd}
 use Rattle.sheet_fields.specs.declared.Field.{Field}
-use Rattle.sheet_fields.specs.declared.Field.TheVariants as F
+use Rattle.sheet_fields.specs.declared.FieldKind.{FieldKind}
+use Rattle.sheet_fields.specs.declared.FieldKind.TheVariants.{Word}
+use Rattle.sheet_fields.specs.declared.Line.{Line}
 use Rattle.sheet_fields.specs.declared.Rule.{Rule}
 use Rattle.sheet_fields.specs.Codes.{rule_of}
 use Rattle.sheet_fields.specs.Field.{token, all_digits, value_from, decimal_of, is_dash, not_below, token_of, field_up_to, field_of}
-use Rattle.sheet_fields.specs.Line.{Fields, ill, got, consed, after_field, separator_of, fields_in, line_with, line_values, line_of}
-use Rattle.sheet_fields.specs.Laws.{Within, Absent, FieldLaws}
+use Rattle.sheet_fields.specs.Line.{Fields, consed, after_field, separator_of, fields_in, line_with, line_values, line_of}
+use Rattle.sheet_fields.specs.Laws.{Within, Allowed, FieldLaws}
 use Rattle.sheet_fields.proofs.LineLaws.{stored}
-
--- ---- what an ill answer is not
-
-ill_not_at : {v : ℕ} {g : Bool} {n : ℕ} → F.Ill ≡ F.At v g n → ⊥
-ill_not_at e = let z : ◌≡◌ {A = ℕ} 0 1 = cc in absurd (omega arith)
 
 -- ---- a number
 
-picked : (high w x : ℕ) (a l : Bool) → leb x high ≡ l → pick (a && l) (N.Is x) N.Ill ≡ N.Is w → w ≤ high
+picked : (high w x : ℕ) (a l : Bool) → leb x high ≡ l → pick (a && l) (Some x) None ≡ Some w → w ≤ high
 picked high w x true true q e = let f : x ≡ w = cc in rw (← f) (leb-true x high q)
-picked high w x true false q e = let z : ◌≡◌ {A = ℕ} 0 1 = cc in absurd (omega arith)
-picked high w x false l q e = let z : ◌≡◌ {A = ℕ} 0 1 = cc in absurd (omega arith)
+picked high w x true false q e = absurd (none-some w e)
+picked high w x false l q e = absurd (none-some w e)
 
-decimal_high : (high w : ℕ) (t : List ℕ) → decimal_of high t ≡ N.Is w → w ≤ high
+decimal_high : (high w : ℕ) (t : List ℕ) → decimal_of high t ≡ Some w → w ≤ high
 unfolding decimal_of
 decimal_high high w t e =
-    let k = went_past _ _ _ _ _ e (λ q. let z : ◌≡◌ {A = ℕ} 0 1 = cc in absurd (omega arith)) in
+    let k = went_past _ _ _ _ _ e (none-some w) in
     picked high w (value_from 0 t) (all_digits t) (leb (value_from 0 t) high) refl k.1
 
 -- ---- a token
 
-below : (least high next v n : ℕ) (g : Bool) (m : Number) → ((w : ℕ) → m ≡ N.Is w → w ≤ high) → not_below least next m ≡ F.At v g n
-    → (g ≡ false) × (least ≤ v) × (v ≤ high)
+below : (rule : Rule) (next : ℕ) (f : Field) (m : Option ℕ) → ((w : ℕ) → m ≡ Some w → w ≤ rule.most) → not_below rule.least next m ≡ Some f → Allowed rule f.value
 unfolding not_below
-below least high next v n g (N.Is w) h e =
-    let k = went_past _ _ _ _ _ e ill_not_at in
-    let q : F.At w false next ≡ F.At v g n = k.1 in
-    let f : w ≡ v = cc in
-    let b : false ≡ g = cc in
-    (sym b, rw (← f) (ltb-false w least k.0), rw (← f) (h w refl))
-below least high next v n g N.Ill h e = absurd (ill_not_at e)
+below rule next f (Some w) h e =
+    let k = went_past _ _ _ _ _ e (none-some f) in
+    let q : record { value = Some w; next = next } ≡ f = same_Some _ _ k.1 in
+    rw (← q) (ltb-false w rule.least k.0, h w refl)
+below rule next f None h e = absurd (none-some f e)
 
--- by the mark
-abbrev Read : Rule → ℕ → Bool → Type 0
-Read rule v false = Within rule v
-Read rule v true = Absent rule v
-
-module _ (t : List ℕ) (rule : Rule) (next v n : ℕ) (g : Bool) where
-  lacking : (d : Bool) → (rule.dash && is_dash t) ≡ d → stop_if d (F.At (2 ^ 64 - 1) true next) (not_below rule.least next (decimal_of rule.most t)) ≡ F.At v g n → Read rule v g
+module _ (t : List ℕ) (rule : Rule) (next : ℕ) (f : Field) where
+  lacking : (d : Bool) → (rule.dash && is_dash t) ≡ d → stop_if d (Some (record { value = None; next = next })) (not_below rule.least next (decimal_of rule.most t)) ≡ Some f → Allowed rule f.value
   unfolding stop_if
   lacking true d e =
-      let b : true ≡ g = cc in
-      let f : 2 ^ 64 - 1 ≡ v = cc in
-      rw (← b) ((both_true rule.dash (is_dash t) d).0, sym f)
-  lacking false d e =
-      let k = below rule.least rule.most next v n g (decimal_of rule.most t) (λ w q. decimal_high rule.most w t q) e in
-      rw k.0 (k.1, k.2)
+      let q : record { value = None; next = next } ≡ f = same_Some _ _ e in
+      rw (← q) (both_true rule.dash (is_dash t) d).0
+  lacking false d e = below rule next f (decimal_of rule.most t) (λ w q. decimal_high rule.most w t q) e
 
-  token_read : token_of t rule next ≡ F.At v g n → Read rule v g
+  token_read : token_of t rule next ≡ Some f → Allowed rule f.value
   unfolding token_of
   token_read e = lacking (rule.dash && is_dash t) refl e
 
 -- ---- a field
 
-pub field_read : (s : List ℕ) (at code sep v n : ℕ) (g : Bool) → field_of s at code sep ≡ F.At v g n → Read (rule_of code) v g
+pub field_read : (s : List ℕ) (at : ℕ) (kind : FieldKind) (sep : ℕ) (f : Field) → field_of s at kind sep ≡ Some f → Allowed (rule_of kind) f.value
 unfolding field_of field_up_to
-field_read s at code sep v n g e =
-    let k = went_past _ _ _ _ _ e ill_not_at in
-    let l = went_past _ _ _ _ _ k.1 ill_not_at in
-    token_read (token (drop at s)) (rule_of code) _ v n g l.1
+field_read s at kind sep f e =
+    let k = went_past _ _ _ _ _ e (none-some f) in
+    let l = went_past _ _ _ _ _ k.1 (none-some f) in
+    token_read (token (drop at s)) (rule_of kind) _ f l.1
 
 -- ---- the values of a line
 
-abbrev Fit : Rule → ℕ → Type 0
-Fit rule v = Within rule v ⊎ Absent rule v
+-- as many values as kinds, each by its kind
+record AllFit (kinds : List FieldKind) (vs : List (Option ℕ)) : Type 0 where
+  same : length vs ≡ length kinds
+  each : (i : ℕ) → i < length kinds → Allowed (rule_of (get_or kinds i Word)) (get_or vs i None)
 
-fit_by : (rule : Rule) (v : ℕ) (g : Bool) → Read rule v g → Fit rule v
-fit_by rule v false r = inl r
-fit_by rule v true r = inr r
-
--- as many values as codes, each by its code
-record AllFit (codes vs : List ℕ) : Type 0 where
-  same : length vs ≡ length codes
-  each : (i : ℕ) → i < length codes → Fit (rule_of (get_or codes i 0)) (get_or vs i 0)
-
-one_more : (c : ℕ) (cs : List ℕ) (v : ℕ) (vs : List ℕ) → Fit (rule_of c) v → AllFit cs vs → AllFit (c ∷ cs) (v ∷ vs)
-one_more c cs v vs f a = record { same = ap suc a.same; each = each }
+one_more : (k : FieldKind) (ks : List FieldKind) (v : Option ℕ) (vs : List (Option ℕ)) → Allowed (rule_of k) v → AllFit ks vs → AllFit (k ∷ ks) (v ∷ vs)
+one_more k ks v vs f a = record { same = ap suc a.same; each = each }
   where
-    each : (i : ℕ) → i < suc (length cs) → Fit (rule_of (get_or (c ∷ cs) i 0)) (get_or (v ∷ vs) i 0)
+    each : (i : ℕ) → i < suc (length ks) → Allowed (rule_of (get_or (k ∷ ks) i Word)) (get_or (v ∷ vs) i None)
     each zero h = f
     each (suc i) h = a.each i (omega arith)
 
-ill_not_got : {vs : List ℕ} {g : Bool} {n : ℕ} → ill ≡ got vs g n → ⊥
-ill_not_got e = let z : ◌≡◌ {A = ℕ} 0 1 = cc in absurd (omega arith)
-
 -- fields that were read with one more before them
 of_rest :
-    (c : ℕ) (cs : List ℕ) (v : ℕ) (f : Fields) (vs : List ℕ) (g : Bool) (n : ℕ) → Fit (rule_of c) v
-    → ((ws : List ℕ) (h : Bool) (m : ℕ) → f ≡ got ws h m → AllFit cs ws) → consed v f ≡ got vs g n → AllFit (c ∷ cs) vs
+    (k : FieldKind) (ks : List FieldKind) (v : Option ℕ) (o : Option Fields) (r : Fields) → Allowed (rule_of k) v
+    → ((f : Fields) → o ≡ Some f → AllFit ks f.found) → consed v o ≡ Some r → AllFit (k ∷ ks) r.found
 unfolding consed
-of_rest c cs v ill vs g n fit rest e = absurd (ill_not_got e)
-of_rest c cs v (got ws h m) vs g n fit rest e = let f : v ∷ ws ≡ vs = cc in rw (← f) (one_more c cs v ws fit (rest ws h m refl))
+of_rest k ks v None r fit rest e = absurd (none-some r e)
+of_rest k ks v (Some f) r fit rest e =
+    let q : record { found = v ∷ f.found; after = f.after } ≡ r = same_Some _ _ e in
+    rw (← q) (one_more k ks v f.found fit (rest f refl))
 
 of_field :
-    (s : List ℕ) (c at sep : ℕ) (cs : List ℕ) (f : Field) (vs : List ℕ) (g : Bool) (n : ℕ) → field_of s at c sep ≡ f
-    → ((from : ℕ) (gone : Bool) (ws : List ℕ) (h : Bool) (m : ℕ) → fields_in s cs from gone ≡ got ws h m → AllFit cs ws)
-    → after_field f (λ v g next. consed v (fields_in s cs next g)) ≡ got vs g n → AllFit (c ∷ cs) vs
+    (s : List ℕ) (k : FieldKind) (at sep : ℕ) (ks : List FieldKind) (o : Option Field) (r : Fields) → field_of s at k sep ≡ o
+    → ((from : ℕ) (f : Fields) → fields_in s ks from ≡ Some f → AllFit ks f.found)
+    → after_field o (λ v next. consed v (fields_in s ks next)) ≡ Some r → AllFit (k ∷ ks) r.found
 unfolding after_field
-of_field s c at sep cs (F.At v h m) vs g n is rest e =
-    of_rest c cs v (fields_in s cs m h) vs g n (fit_by (rule_of c) v h (field_read s at c sep v m h is)) (rest m h) e
-of_field s c at sep cs F.Ill vs g n is rest e = absurd (ill_not_got e)
+of_field s k at sep ks (Some f) r is rest e = of_rest k ks f.value (fields_in s ks f.next) r (field_read s at k sep f is) (rest f.next) e
+of_field s k at sep ks None r is rest e = absurd (none-some r e)
 
-fields_fit : (s codes : List ℕ) (at : ℕ) (gone : Bool) (vs : List ℕ) (g : Bool) (n : ℕ) → fields_in s codes at gone ≡ got vs g n → AllFit codes vs
+fields_fit : (s : List ℕ) (kinds : List FieldKind) (at : ℕ) (r : Fields) → fields_in s kinds at ≡ Some r → AllFit kinds r.found
 unfolding fields_in
-fields_fit s [] at gone vs g n e = let f : [] ≡ vs = cc in rw (← f) (record { same = refl; each = λ i h. absurd (omega arith) })
-fields_fit s (c ∷ cs) at gone vs g n e = of_field s c at (separator_of (length (c ∷ cs))) cs _ vs g n refl (λ from gone ws h m. fields_fit s cs from gone ws h m) e
+fields_fit s [] at r e =
+    let q : record { found = []; after = at } ≡ r = same_Some _ _ e in
+    rw (← q) (record { same = refl; each = λ i h. absurd (omega arith) })
+fields_fit s (k ∷ ks) at r e = of_field s k at (separator_of (length (k ∷ ks))) ks _ r refl (λ from f. fields_fit s ks from f) e
 
 of_line :
-    (codes : List ℕ) (i : ℕ) (f : Fields) → ((vs : List ℕ) (g : Bool) (n : ℕ) → f ≡ got vs g n → AllFit codes vs) → length codes ≤ line_values
-    → (line_with (replicate line_values 0) 0 f).good ≡ true → i < length codes
-    → Fit (rule_of (get_or codes i 0)) (get_or (line_with (replicate line_values 0) 0 f).values i 0)
+    (kinds : List FieldKind) (i : ℕ) (o : Option Fields) (l : Line) → ((f : Fields) → o ≡ Some f → AllFit kinds f.found) → length kinds ≤ line_values
+    → line_with (replicate line_values None) 0 o ≡ Some l → i < length kinds
+    → Allowed (rule_of (get_or kinds i Word)) (get_or l.values i None)
 unfolding line_with
-of_line codes i ill fit few e h = let z : ◌≡◌ {A = ℕ} 0 1 = cc in absurd (omega arith)
-of_line codes i (got vs g n) fit few e h =
-    let a = fit vs g n refl in
+of_line kinds i None l fit few e h = absurd (none-some l e)
+of_line kinds i (Some f) l fit few e h =
+    let a = fit f refl in
     let k = a.same in
-    rw (stored vs (replicate line_values 0) i (omega arith) (omega arith)) (a.each i h)
+    let q : record { next = f.after; values = sets (replicate line_values None) 0 f.found } ≡ l = same_Some _ _ e in
+    rw (← q, stored f.found (replicate line_values None) i (omega arith) (omega arith)) (a.each i h)
 
 line_value :
-    (s codes : List ℕ) (at i : ℕ) → length codes ≤ line_values → (line_of s codes at).good ≡ true → i < length codes
-    → Fit (rule_of (get_or codes i 0)) (get_or (line_of s codes at).values i 0)
+    (s : List ℕ) (kinds : List FieldKind) (at i : ℕ) (l : Line) → length kinds ≤ line_values → line_of s kinds at ≡ Some l → i < length kinds
+    → Allowed (rule_of (get_or kinds i Word)) (get_or l.values i None)
 unfolding line_of
-line_value s codes at i few e h = of_line codes i (fields_in s codes at false) (λ vs g n q. fields_fit s codes at false vs g n q) few e h
+line_value s kinds at i l few e h = of_line kinds i (fields_in s kinds at) l (λ f q. fields_fit s kinds at f q) few e h
 
-not_absent : (rule : Rule) (v : ℕ) → Fit rule v → rule.dash ≡ false → Within rule v
-not_absent rule v f d = ⊎_elim (λ w. w) (λ a. let t : true ≡ false = sym a.0 ∙ d in let z : ◌≡◌ {A = ℕ} 0 1 = cc in absurd (omega arith)) f
+not_absent : (rule : Rule) (o : Option ℕ) → Allowed rule o → rule.dash ≡ false → IsSomeAnd o (λ v. Within rule v)
+not_absent rule (Some v) f d = f
+not_absent rule None f d = let t : true ≡ false = sym f ∙ d in let z : ◌≡◌ {A = ℕ} 0 1 = cc in absurd (omega arith)
 
 pub field_laws : FieldLaws
 field_laws =
     record {
-      within = λ s at code sep v n e. field_read s at code sep v n false e;
-      absent = λ s at code sep v n e. field_read s at code sep v n true e;
+      within = λ s at kind sep v n e. field_read s at kind sep _ e;
+      absent = λ s at kind sep n e. field_read s at kind sep _ e;
       value = line_value;
-      there = λ s codes at i few e h d. not_absent _ _ (line_value s codes at i few e h) d;
+      there = λ s kinds at i l few e h d. not_absent _ _ (line_value s kinds at i l few e h) d;
     }

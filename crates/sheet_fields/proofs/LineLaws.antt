@@ -1,43 +1,44 @@
--- How a loop over codes reads a line.
+-- How a loop over kinds reads a line.
 -- Assumes nothing.
 use mathlib.Core.Path.{◌≡◌, refl}
-use mathlib.Core.Bool.{Bool, true}
 use mathlib.Core.List.{List, ◌∷◌}
 use Prim.Native.Nat.{ℕ, suc, ◌+◌, ◌-◌, ◌≤◌, ◌<◌}
 use native.Mathlib.Omega.{arith}
 use native.Mathlib.Numerals.{add-one}
-use lib.ListN.{get_or-append, length, drop, get_or, set, replicate, drop_of_length-le, length-drop}
+use lib.ListN.{get_or-append, length, drop, get_or, set, drop_of_length-le, length-drop}
 use lib.Seq.{drop-cons, sets, sets-eq}
+use Rattle.std.specs.Prelude.{Option, None, Some}
 use Rattle.sheet_fields.specs.declared.Field.{Field}
-use Rattle.sheet_fields.specs.declared.Field.TheVariants as F
+use Rattle.sheet_fields.specs.declared.FieldKind.{FieldKind}
+use Rattle.sheet_fields.specs.declared.FieldKind.TheVariants.{Word}
 use Rattle.sheet_fields.specs.Field.{field_of}
-use Rattle.sheet_fields.specs.Line.{Fields, ill, got, consed, after_field, separator_of, fields_in, line_with, line_values}
+use Rattle.sheet_fields.specs.Line.{Fields, consed, after_field, separator_of, fields_in, line_with}
 
 -- a value more is a store more
-set_on : (vs : List ℕ) (i v : ℕ) (f : Fields) → line_with (set vs i v) (suc i) f ≡ line_with vs i (consed v f)
+set_on : (vs : List (Option ℕ)) (i : ℕ) (v : Option ℕ) (f : Option Fields) → line_with (set vs i v) (suc i) f ≡ line_with vs i (consed v f)
 unfolding line_with consed
-set_on vs i v ill = refl
-set_on vs i v (got ws g n) = refl
+set_on vs i v None = refl
+set_on vs i v (Some f) = refl
 
-module _ (s codes vs : List ℕ) (i at : ℕ) (gone : Bool) (inside : i < length codes)
-    (f : Field) (sep : ℕ) (is-sep : sep ≡ separator_of (length codes - i)) (e : f ≡ field_of s at (get_or codes i 0) sep) where
-  here : f ≡ field_of s at (get_or codes i 0) (separator_of (length (get_or codes i 0 ∷ drop (suc i) codes)))
+module _ (s : List ℕ) (kinds : List FieldKind) (vs : List (Option ℕ)) (i at : ℕ) (inside : i < length kinds)
+    (o : Option Field) (sep : ℕ) (is-sep : sep ≡ separator_of (length kinds - i)) (e : o ≡ field_of s at (get_or kinds i Word) sep) where
+  here : o ≡ field_of s at (get_or kinds i Word) (separator_of (length (get_or kinds i Word ∷ drop (suc i) kinds)))
   here =
-      let l : length codes - i ≡ suc (length (drop (suc i) codes)) = simp length-drop (omega arith) in
+      let l : length kinds - i ≡ suc (length (drop (suc i) kinds)) = simp length-drop (omega arith) in
       rw (← l, ← is-sep) e
 
-  pub line_on : (v : ℕ) (g : Bool) (n : ℕ) → f ≡ F.At v g n → line_with (set vs i v) (i + 1) (fields_in s (drop (i + 1) codes) n g) ≡ line_with vs i (fields_in s (drop i codes) at gone)
+  pub line_on : (f : Field) → o ≡ Some f → line_with (set vs i f.value) (i + 1) (fields_in s (drop (i + 1) kinds) f.next) ≡ line_with vs i (fields_in s (drop i kinds) at)
   unfolding fields_in after_field
-  line_on v g n q = rw (drop-cons codes i 0 inside, ← here, q, add-one i) (set_on vs i v (fields_in s (drop (suc i) codes) n g))
+  line_on f q = rw (drop-cons kinds i Word inside, ← here, q, add-one i) (set_on vs i f.value (fields_in s (drop (suc i) kinds) f.next))
 
-  pub line_off : f ≡ F.Ill → line_with (replicate line_values 0) 0 ill ≡ line_with vs i (fields_in s (drop i codes) at gone)
+  pub line_off : o ≡ None → None ≡ line_with vs i (fields_in s (drop i kinds) at)
   unfolding fields_in after_field line_with
-  line_off q = rw (drop-cons codes i 0 inside, ← here, q)
+  line_off q = rw (drop-cons kinds i Word inside, ← here, q)
 
-pub line_all : (s codes vs : List ℕ) (i at : ℕ) (gone : Bool) → length codes ≤ i → record { good = true; next = at; gone = gone; values = vs } ≡ line_with vs i (fields_in s (drop i codes) at gone)
+pub line_all : (s : List ℕ) (kinds : List FieldKind) (vs : List (Option ℕ)) (i at : ℕ) → length kinds ≤ i → Some (record { next = at; values = vs }) ≡ line_with vs i (fields_in s (drop i kinds) at)
 unfolding fields_in line_with
-line_all s codes vs i at gone h = rw (drop_of_length-le codes h)
+line_all s kinds vs i at h = rw (drop_of_length-le kinds h)
 
 -- what was stored from the start on
-pub stored : (vs l : List ℕ) (k : ℕ) → k < length vs → length vs ≤ length l → get_or (sets l 0 vs) k 0 ≡ get_or vs k 0
-stored vs l k h room = rw (sets-eq vs l 0 (omega arith)) (get_or-append vs (drop (0 + length vs) l) 0 k h)
+pub stored : (vs l : List (Option ℕ)) (k : ℕ) → k < length vs → length vs ≤ length l → get_or (sets l 0 vs) k None ≡ get_or vs k None
+stored vs l k h room = rw (sets-eq vs l 0 (omega arith)) (get_or-append vs (drop (0 + length vs) l) None k h)

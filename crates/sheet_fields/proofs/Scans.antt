@@ -11,13 +11,12 @@ use lib.Dec.{leb, eqb}
 use lib.ListN.{length, take, drop, get_or, drop_of_length-le}
 use lib.Seq.{drop-cons}
 use Rattle.conditions.specs.Conditions.{pick, stop_if}
-use Rattle.sheet_fields.specs.declared.Number.{Number}
-use Rattle.sheet_fields.specs.declared.Number.TheVariants as N
+use Rattle.std.specs.Prelude.{Option, None, Some}
 use Rattle.sheet_fields.specs.declared.Field.{Field}
-use Rattle.sheet_fields.specs.declared.Field.TheVariants as F
+use Rattle.sheet_fields.specs.declared.FieldKind.{FieldKind}
 use Rattle.sheet_fields.specs.declared.Rule.{Rule}
 use Rattle.sheet_fields.specs.Codes.{rule_of}
-use Rattle.sheet_fields.specs.Field.{is_gap, token, is_digit, all_digits, plain, value_from, decimal_of, push_of, is_dash, field_up_to, field_of, token_of}
+use Rattle.sheet_fields.specs.Field.{is_gap, token, is_digit, all_digits, plain, value_from, decimal_of, push_of, field_up_to, field_of, token_of}
 
 -- ---- tokens
 
@@ -63,20 +62,20 @@ plain_many (b ∷ c ∷ t) z o = refl
 
 -- ---- digits: what the digits t give after those of v
 
-abbrev pub scanned : ℕ → ℕ → List ℕ → Number
-scanned high v t = pick (all_digits t && leb (value_from v t) high) (N.Is (value_from v t)) N.Ill
+abbrev pub scanned : ℕ → ℕ → List ℕ → Option ℕ
+scanned high v t = pick (all_digits t && leb (value_from v t) high) (Some (value_from v t)) None
 
 grows : (v : ℕ) (t : List ℕ) → v ≤ value_from v t
 unfolding value_from
 grows v [] = omega arith
 grows v (b ∷ t) = let h : v * 10 + (b - 48) ≤ value_from (v * 10 + (b - 48)) t = grows (v * 10 + (b - 48)) t in omega arith
 
-pub scanned_all : (high v : ℕ) (t : List ℕ) (i : ℕ) → length t ≤ i → v ≤ high → N.Is v ≡ scanned high v (drop i t)
+pub scanned_all : (high v : ℕ) (t : List ℕ) (i : ℕ) → length t ≤ i → v ≤ high → Some v ≡ scanned high v (drop i t)
 unfolding all_digits value_from
 scanned_all high v t i h k = rw (drop_of_length-le t h, le-leb _ _ k)
 
 -- one byte, by whether it is a digit and whether the value stays within the bound
-on : (high v b w : ℕ) (t : List ℕ) (d l : Bool) → is_digit b ≡ d → leb (v * 10 + (b - 48)) high ≡ l → pick (d && l) (N.Is (v * 10 + (b - 48))) N.Ill ≡ N.Is w
+on : (high v b w : ℕ) (t : List ℕ) (d l : Bool) → is_digit b ≡ d → leb (v * 10 + (b - 48)) high ≡ l → pick (d && l) (Some (v * 10 + (b - 48))) None ≡ Some w
     → (scanned high w t ≡ scanned high v (b ∷ t)) × (w ≤ high)
 unfolding all_digits value_from
 on high v b w t true true p q e =
@@ -85,12 +84,12 @@ on high v b w t true true p q e =
 on high v b w t true false p q e = let z : ◌≡◌ {A = ℕ} 0 1 = cc in absurd (omega arith)
 on high v b w t false l p q e = let z : ◌≡◌ {A = ℕ} 0 1 = cc in absurd (omega arith)
 
-stays : (a : Bool) (v : ℕ) → N.Ill ≡ pick (a && false) (N.Is v) N.Ill
+stays : (a : Bool) (v : ℕ) → None ≡ pick (a && false) (Some v) None
 stays true v = refl
 stays false v = refl
 
-off : (high v b : ℕ) (t : List ℕ) (d l : Bool) → is_digit b ≡ d → leb (v * 10 + (b - 48)) high ≡ l → pick (d && l) (N.Is (v * 10 + (b - 48))) N.Ill ≡ N.Ill
-    → N.Ill ≡ scanned high v (b ∷ t)
+off : (high v b : ℕ) (t : List ℕ) (d l : Bool) → is_digit b ≡ d → leb (v * 10 + (b - 48)) high ≡ l → pick (d && l) (Some (v * 10 + (b - 48))) None ≡ None
+    → None ≡ scanned high v (b ∷ t)
 unfolding all_digits value_from
 off high v b t true true p q e = let z : ◌≡◌ {A = ℕ} 0 1 = cc in absurd (omega arith)
 off high v b t true false p q e =
@@ -101,45 +100,32 @@ off high v b t true false p q e =
     rw (p, h) (stays (all_digits t) (value_from (v * 10 + (b - 48)) t))
 off high v b t false l p q e = rw p
 
-module _ (high v : ℕ) (t : List ℕ) (i : ℕ) (inside : i < length t) (r : Number) (e : r ≡ push_of v (get_or t i 0) high) where
-  pub scanned_on : (w : ℕ) → r ≡ N.Is w → (scanned high w (drop (i + 1) t) ≡ scanned high v (drop i t)) × (w ≤ high)
+module _ (high v : ℕ) (t : List ℕ) (i : ℕ) (inside : i < length t) (r : Option ℕ) (e : r ≡ push_of v (get_or t i 0) high) where
+  pub scanned_on : (w : ℕ) → r ≡ Some w → (scanned high w (drop (i + 1) t) ≡ scanned high v (drop i t)) × (w ≤ high)
   unfolding push_of
   scanned_on w f = rw (drop-cons t i 0 inside, add-one i) (on high v (get_or t i 0) w (drop (suc i) t) _ _ refl refl (sym e ∙ f))
 
-  pub scanned_off : r ≡ N.Ill → N.Ill ≡ scanned high v (drop i t)
+  pub scanned_off : r ≡ None → None ≡ scanned high v (drop i t)
   unfolding push_of
   scanned_off f = rw (drop-cons t i 0 inside) (off high v (get_or t i 0) (drop (suc i) t) _ _ refl refl (sym e ∙ f))
 
--- ---- dash
-
-pub dash_one : (t : List ℕ) → length t ≡ 1 → eqb (get_or t 0 0) 45 ≡ is_dash t
-unfolding is_dash
-dash_one [] e = absurd (omega arith)
-dash_one (b ∷ []) e = refl
-dash_one (b ∷ c ∷ t) e = absurd (omega arith)
-
-pub dash_none : (t : List ℕ) → (length t ≡ 1 → ⊥) → false ≡ is_dash t
-unfolding is_dash
-dash_none [] n = refl
-dash_none (b ∷ []) n = absurd (n refl)
-dash_none (b ∷ c ∷ t) n = refl
-
 -- ---- one byte more
 
-pub push_over : (v b high d : ℕ) → d ≡ b → high < v * 10 + (d - 48) → N.Ill ≡ push_of v b high
+pub push_letter : (v b high : ℕ) (r : Bool) → r ≡ is_digit b → r ≡ false → None ≡ push_of v b high
 unfolding push_of
-push_over v b high d e h = rw (lt-leb (v * 10 + (b - 48)) high (rw (← e) h)) (over (is_digit b)) where
-  over : (t : Bool) → N.Ill ≡ pick (t && false) (N.Is (v * 10 + (b - 48))) N.Ill
-  over true = refl
-  over false = refl
+push_letter v b high r e n = rw (← e, n)
 
-pub push_is : (v b high d : ℕ) → d ≡ b → 48 ≤ b → b ≤ 57 → v * 10 + (d - 48) ≤ high → N.Is (v * 10 + (d - 48)) ≡ push_of v b high
-unfolding push_of is_digit
-push_is v b high d e lo up h = rw (e, le-leb 48 b lo, le-leb b 57 up, le-leb (v * 10 + (b - 48)) high (rw (← e) h))
+pub push_over : (v b high : ℕ) → high < v * 10 + (b - 48) → None ≡ push_of v b high
+unfolding push_of
+push_over v b high h = rw (lt-leb (v * 10 + (b - 48)) high h) (stays (is_digit b) (v * 10 + (b - 48)))
+
+pub push_is : (v b high w : ℕ) (r : Bool) → r ≡ is_digit b → r ≡ true → w ≡ v * 10 + (b - 48) → w ≤ high → Some w ≡ push_of v b high
+unfolding push_of
+push_is v b high w r e y q h = rw (← e, y, ← q, le-leb w high h)
 
 -- ---- the whole of a decimal
 
-pub decimal_ill : (high : ℕ) (t : List ℕ) (r : Bool) → r ≡ plain t → not r ≡ true → N.Ill ≡ decimal_of high t
+pub decimal_ill : (high : ℕ) (t : List ℕ) (r : Bool) → r ≡ plain t → not r ≡ true → None ≡ decimal_of high t
 unfolding decimal_of stop_if
 decimal_ill high t r e n = rw (← e, n)
 
@@ -149,16 +135,16 @@ decimal_is high t r e n = rw (← e, n)
 
 -- ---- a field, whose token ends at e
 
-module _ (s : List ℕ) (at code sep e : ℕ) (is : e ≡ at + length (token (drop at s))) where
-  pub field_past : length s ≤ e → F.Ill ≡ field_of s at code sep
+module _ (s : List ℕ) (at : ℕ) (kind : FieldKind) (sep e : ℕ) (is : e ≡ at + length (token (drop at s))) where
+  pub field_past : length s ≤ e → None ≡ field_of s at kind sep
   unfolding field_of field_up_to stop_if
   field_past h = rw (← is, le-leb _ _ h)
 
-  pub field_other : e < length s → (get_or s e 0 ≡ sep → ⊥) → F.Ill ≡ field_of s at code sep
+  pub field_other : e < length s → (get_or s e 0 ≡ sep → ⊥) → None ≡ field_of s at kind sep
   unfolding field_of field_up_to stop_if
   field_other h n = rw (← is, lt-leb _ _ h, ne_eqb _ _ n)
 
-  pub field_token : e < length s → get_or s e 0 ≡ sep → (k : Rule) → k ≡ rule_of code → (r : Field) → r ≡ token_of (take (e - at) (drop at s)) k (e + 1) → r ≡ field_of s at code sep
+  pub field_token : e < length s → get_or s e 0 ≡ sep → (k : Rule) → k ≡ rule_of kind → (r : Option Field) → r ≡ token_of (take (e - at) (drop at s)) k (e + 1) → r ≡ field_of s at kind sep
   unfolding field_of field_up_to stop_if
   field_token h g k i r q =
       let n : e - at ≡ length (token (drop at s)) = omega arith in

@@ -1,11 +1,9 @@
 -- One field, on the list of the bytes that it stands among.
 -- Among bytes 10 is a newline, 32 a space, 45 `-`, and 48 to 57 are the digits.
-use Rattle.std.specs.Prelude.{Bool, true, false, ◌&&◌, ◌||◌, not, List, [], ◌∷◌, ℕ, ◌+◌, ◌-◌, ◌*◌, ◌^◌, leb, ltb, eqb, length, drop, get_or}
+use Rattle.std.specs.Prelude.{Bool, true, false, ◌&&◌, ◌||◌, not, List, [], ◌∷◌, ℕ, ◌+◌, ◌-◌, ◌*◌, Option, None, Some, bytes_eq, leb, ltb, eqb, length, drop, get_or}
 use Rattle.conditions.specs.Conditions.{pick, stop_if, ◌$◌}
-use Rattle.sheet_fields.specs.declared.Number.{Number}
-use Rattle.sheet_fields.specs.declared.Number.TheVariants as N
 use Rattle.sheet_fields.specs.declared.Field.{Field}
-use Rattle.sheet_fields.specs.declared.Field.TheVariants as F
+use Rattle.sheet_fields.specs.declared.FieldKind.{FieldKind}
 use Rattle.sheet_fields.specs.declared.Rule.{Rule}
 use Rattle.sheet_fields.specs.Codes.{rule_of}
 
@@ -37,36 +35,34 @@ value_from v [] = v
 value_from v (b ∷ t) = value_from (v * 10 + (b - 48)) t
 
 -- a number that is not above high
-unfoldable pub decimal_of : ℕ → List ℕ → Number
+unfoldable pub decimal_of : ℕ → List ℕ → Option ℕ
 decimal_of high t =
-    stop_if (not (plain t)) N.Ill $
-    pick (all_digits t && leb (value_from 0 t) high) (N.Is (value_from 0 t)) N.Ill
+    stop_if (not (plain t)) None $
+    pick (all_digits t && leb (value_from 0 t) high) (Some (value_from 0 t)) None
 
 unfoldable pub is_dash : List ℕ → Bool
-is_dash [] = false
-is_dash (b ∷ []) = eqb b 45
-is_dash (b ∷ c ∷ t) = false
+is_dash t = bytes_eq t (45 ∷ [])
 
-unfoldable pub not_below : ℕ → ℕ → Number → Field
-not_below least next (N.Is v) = stop_if (ltb v least) F.Ill (F.At v false next)
-not_below least next N.Ill = F.Ill
+-- a number that is there
+unfoldable pub not_below : ℕ → ℕ → Option ℕ → Option Field
+not_below least next (Some v) = stop_if (ltb v least) None (Some (record { value = Some v; next = next }))
+not_below least next None = None
 
--- an absent value is the largest of 64 bits, with a mark
-unfoldable pub token_of : List ℕ → Rule → ℕ → Field
+unfoldable pub token_of : List ℕ → Rule → ℕ → Option Field
 token_of t rule next =
-    stop_if (rule.dash && is_dash t) (F.At (2 ^ 64 - 1) true next) $
+    stop_if (rule.dash && is_dash t) (Some (record { value = None; next = next })) $
     not_below rule.least next (decimal_of rule.most t)
 
 -- the field at a place, whose token ends at e: there the byte sep has to stand
-unfoldable pub field_up_to : List ℕ → ℕ → ℕ → ℕ → ℕ → Field
-field_up_to s at code sep e =
-    stop_if (leb (length s) e) F.Ill $
-    stop_if (not (eqb (get_or s e 0) sep)) F.Ill $
-    token_of (token (drop at s)) (rule_of code) (e + 1)
+unfoldable pub field_up_to : List ℕ → ℕ → FieldKind → ℕ → ℕ → Option Field
+field_up_to s at kind sep e =
+    stop_if (leb (length s) e) None $
+    stop_if (not (eqb (get_or s e 0) sep)) None $
+    token_of (token (drop at s)) (rule_of kind) (e + 1)
 
-unfoldable pub field_of : List ℕ → ℕ → ℕ → ℕ → Field
-field_of s at code sep = field_up_to s at code sep (at + length (token (drop at s)))
+unfoldable pub field_of : List ℕ → ℕ → FieldKind → ℕ → Option Field
+field_of s at kind sep = field_up_to s at kind sep (at + length (token (drop at s)))
 
 -- one byte more after the digits of v
-unfoldable pub push_of : ℕ → ℕ → ℕ → Number
-push_of v b high = pick (is_digit b && leb (v * 10 + (b - 48)) high) (N.Is (v * 10 + (b - 48))) N.Ill
+unfoldable pub push_of : ℕ → ℕ → ℕ → Option ℕ
+push_of v b high = pick (is_digit b && leb (v * 10 + (b - 48)) high) (Some (v * 10 + (b - 48))) None

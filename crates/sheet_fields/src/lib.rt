@@ -1,27 +1,23 @@
 #![tactic(auto)]
-// Fields of decimal text, and lines of fields. What a field may hold goes by its code, so that one reader reads every line.
-ghost use Rattle.std.specs.Prelude.{◌≡◌, true, false, ◌+◌, ◌≤◌, length, drop, replicate};
+// Fields of decimal text, and lines of fields. What a field may hold goes by its kind, so that one reader reads every line.
+ghost use Rattle.std.specs.Prelude.{◌≡◌, ◌+◌, ◌≤◌, length, drop};
 ghost use Rattle.sheet_fields.specs.Codes.{rule, rule_of};
-ghost use Rattle.sheet_fields.specs.Field.{is_gap, token, plain, decimal_of, push_of, is_dash, not_below, token_of, field_of};
-ghost use Rattle.sheet_fields.specs.Line.{ill, line_values, line_with, line_of, separator_of};
+ghost use Rattle.sheet_fields.specs.Field.{is_gap, token, plain, decimal_of, push_of, is_dash, token_of, field_of};
+ghost use Rattle.sheet_fields.specs.Line.{line_values, no_line, line_of, separator_of};
 ghost use Rattle.sheet_fields.specs.Laws.{FieldLaws};
 
-// The codes of fields.
-pub const WORD: u8 = 0;
-
-pub const LONG: u8 = 1;
-
-pub const WORD_OR_DASH: u8 = 2;
-
-pub const LONG_OR_DASH: u8 = 3;
-
-pub const ASPECT: u8 = 4;
-
-pub const FACT: u8 = 5;
-
-pub const KIND: u8 = 6;
-
-pub const COUNT: u8 = 7;
+// What a field may hold.
+#[derive(Clone, Copy)]
+pub enum FieldKind {
+    Word,
+    Long,
+    WordOrDash,
+    LongOrDash,
+    Aspect,
+    Fact,
+    CopyKind,
+    Count,
+}
 
 // How many values a line has room for.
 pub const LINE_VALUES: usize = 16;
@@ -34,26 +30,29 @@ pub struct Rule {
     pub dash: bool,
 }
 
+// A value, or none for `-`; and the place after the field.
 #[derive(Clone, Copy)]
-pub enum Number {
-    Is(u64),
-    Ill,
+pub struct Field {
+    pub value: Option<u64>,
+    pub next: usize,
 }
 
-// A value, whether it is absent, and the place after the field.
-#[derive(Clone, Copy)]
-pub enum Field {
-    At(u64, bool, usize),
-    Ill,
-}
-
-// A line's values, whether the last is absent, and the place after the line.
+// A line's values, and the place after the line. A value is none where `-` stands, and after the line's last field.
 #[derive(Clone, Copy)]
 pub struct Line {
-    pub good: bool,
     pub next: usize,
-    pub gone: bool,
-    pub values: [u64; LINE_VALUES],
+    pub values: [Option<u64>; LINE_VALUES],
+}
+
+// What is read where no line is.
+#[tactic(auto, unfolding(crate::specs::Line::no_line))]
+pub fn no_line() -> Line
+    ensures { result ≡ no_line }
+{
+    Line {
+        next: 0,
+        values: [None; LINE_VALUES],
+    }
 }
 
 fn numbers(least: u64, most: u64, dash: bool) -> Rule
@@ -62,27 +61,20 @@ fn numbers(least: u64, most: u64, dash: bool) -> Rule
     Rule { least, most, dash }
 }
 
-// A code that is none has no value that is allowed.
-fn rule_of(code: u8) -> Rule
-    ensures { result ≡ rule_of code }
+#[tactic(auto, unfolding(crate::specs::Codes::rule_of))]
+fn rule_of(kind: FieldKind) -> Rule
+    ensures { result ≡ rule_of kind }
 {
-    match code {
-        WORD => numbers(0, 4294967295, false),
-        LONG => numbers(0, u64::MAX, false),
-        WORD_OR_DASH => numbers(0, 4294967295, true),
-        LONG_OR_DASH => numbers(0, u64::MAX, true),
-        ASPECT => numbers(0, 5, false),
-        FACT => numbers(0, 1, false),
-        KIND => numbers(1, 5, false),
-        COUNT => numbers(0, 256, false),
-        _ => numbers(1, 0, false),
+    match kind {
+        FieldKind::Word => numbers(0, 4294967295, false),
+        FieldKind::Long => numbers(0, u64::MAX, false),
+        FieldKind::WordOrDash => numbers(0, 4294967295, true),
+        FieldKind::LongOrDash => numbers(0, u64::MAX, true),
+        FieldKind::Aspect => numbers(0, 5, false),
+        FieldKind::Fact => numbers(0, 1, false),
+        FieldKind::CopyKind => numbers(1, 5, false),
+        FieldKind::Count => numbers(0, 256, false),
     }
-}
-
-fn wide(x: u8) -> u64
-    ensures { result ≡ x }
-{
-    x as u64
 }
 
 #[tactic(auto, unfolding(crate::specs::Field::is_gap))]
@@ -93,128 +85,93 @@ fn is_gap(b: u8) -> bool
 }
 
 // The place of the first gap from `at` on, or the end.
+#[tactic(auto, using(crate::proofs::Scans::token_end, crate::proofs::Scans::token_gap, crate::proofs::Scans::token_on))]
 fn gap_after(s: &[u8], at: usize) -> usize
     ensures { result ≡ at + length (token (drop at s.now)) }
 {
-    let mut i = at;
-    while i < s.len() {
+    for i in at..s.len() {
         if is_gap(s[i]) {
             return i;
         }
-        i += 1;
     }
-    i
+    at.max(s.len())
 }
 
-// The value with one digit more. The tests come before the arithmetic, so that nothing wraps.
-fn push(v: u64, b: u8, high: u64) -> Number
+// The value with one digit more, if it is not above `high`.
+#[tactic(auto, using(crate::proofs::Scans::push_letter, crate::proofs::Scans::push_over, crate::proofs::Scans::push_is), unfolding(crate::specs::Field::is_digit))]
+fn push(v: u64, b: u8, high: u64) -> Option<u64>
     ensures { result ≡ push_of v b high }
 {
-    if b < b'0' {
-        return Number::Ill;
+    if !b.is_ascii_digit() {
+        return None;
     }
-    if b > b'9' {
-        return Number::Ill;
+    let w = v.checked_mul(10)?.checked_add(u64::from(b - b'0'))?;
+    if w > high {
+        return None;
     }
-    let d = wide(b) - 48;
-    if d > high {
-        return Number::Ill;
-    }
-    if v > (high - d) / 10 {
-        return Number::Ill;
-    }
-    Number::Is(v * 10 + d)
+    Some(w)
 }
 
+// Not empty, and no zero leads other digits.
+#[tactic(auto, using(crate::proofs::Scans::plain_none, crate::proofs::Scans::plain_one, crate::proofs::Scans::plain_many))]
 fn is_plain(t: &[u8]) -> bool
     ensures { result ≡ plain t.now }
 {
-    if t.len() == 0 {
-        return false;
+    match t {
+        [] => false,
+        [_] => true,
+        [first, ..] => *first != b'0',
     }
-    if t.len() == 1 {
-        return true;
-    }
-    t[0] != b'0'
 }
 
-fn read_decimal(t: &[u8], high: u64) -> Number
+#[tactic(auto, using(crate::proofs::Scans::scanned_all, crate::proofs::Scans::scanned_off, crate::proofs::Scans::decimal_ill, crate::proofs::Scans::decimal_is))]
+fn read_decimal(t: &[u8], high: u64) -> Option<u64>
     ensures { result ≡ decimal_of high t.now }
 {
     if !is_plain(t) {
-        return Number::Ill;
+        return None;
     }
-    let mut v: u64 = 0;
-    let mut i: usize = 0;
-    while i < t.len() {
-        let n = push(v, t[i], high);
-        let Number::Is(w) = n else {
-            return Number::Ill;
-        };
-        v = w;
-        i += 1;
+    let mut v = 0;
+    for b in t {
+        v = push(v, *b, high)?;
     }
-    Number::Is(v)
+    Some(v)
 }
 
+#[tactic(auto, unfolding(crate::specs::Field::is_dash))]
 fn is_dash(t: &[u8]) -> bool
     ensures { result ≡ is_dash t.now }
 {
-    if t.len() == 1 {
-        return t[0] == b'-';
-    }
-    false
+    t == b"-".as_slice()
 }
 
-fn not_below(least: u64, next: usize, n: Number) -> Field
-    ensures { result ≡ not_below least next n }
-{
-    match n {
-        Number::Is(v) => {
-            if v < least {
-                Field::Ill
-            } else {
-                Field::At(v, false, next)
-            }
-        }
-        Number::Ill => Field::Ill,
-    }
-}
-
-fn read_token(t: &[u8], rule: Rule, next: usize) -> Field
+#[tactic(auto, unfolding(crate::specs::Field::token_of, crate::specs::Field::not_below, conditions::specs::Conditions::stop_if))]
+fn read_token(t: &[u8], rule: Rule, next: usize) -> Option<Field>
     ensures { result ≡ token_of t.now rule next }
 {
     if conditions::both(rule.dash, is_dash(t)) {
-        return Field::At(u64::MAX, true, next);
+        return Some(Field { value: None, next });
     }
-    not_below(rule.least, next, read_decimal(t, rule.most))
+    let v = read_decimal(t, rule.most)?;
+    if v < rule.least {
+        return None;
+    }
+    Some(Field {
+        value: Some(v),
+        next,
+    })
 }
 
 // The field at a place, which the byte `sep` has to follow.
-pub fn read_field(s: &[u8], at: usize, code: u8, sep: u8) -> Field
-    ensures { result ≡ field_of s.now at code sep }
+#[tactic(auto, using(crate::proofs::Scans::field_past, crate::proofs::Scans::field_other, crate::proofs::Scans::field_token))]
+pub fn read_field(s: &[u8], at: usize, kind: FieldKind, sep: u8) -> Option<Field>
+    ensures { result ≡ field_of s.now at kind sep }
 {
-    let e = gap_after(s, at);
-    if e >= s.len() {
-        return Field::Ill;
+    let end = gap_after(s, at);
+    if *s.get(end)? != sep {
+        return None;
     }
-    let b = s[e];
-    if b != sep {
-        return Field::Ill;
-    }
-    read_token(&s[at..e], rule_of(code), e + 1)
-}
-
-#[tactic(auto, unfolding(crate::specs::Line::line_with))]
-fn ill_line() -> Line
-    ensures { result ≡ line_with (replicate line_values 0) 0 ill }
-{
-    Line {
-        good: false,
-        next: 0,
-        gone: false,
-        values: [0u64; LINE_VALUES],
-    }
+    read_token(&s[at..end], rule_of(kind), end + 1)
 }
 
 #[tactic(auto, unfolding(crate::specs::Line::separator_of))]
@@ -224,34 +181,23 @@ fn separator(left: usize) -> u8
     if left == 1 { b'\n' } else { b' ' }
 }
 
-// The line at a place, its fields by their codes.
-pub fn read_line(s: &[u8], at: usize, codes: &[u8]) -> Line
-    requires { length codes.now ≤ line_values }
-    ensures { result ≡ line_of s.now codes.now at }
+// The line at a place, its fields by their kinds.
+#[tactic(auto, using(crate::proofs::LineLaws::line_off, crate::proofs::LineLaws::line_all), unfolding(crate::specs::Line::line_of))]
+pub fn read_line(s: &[u8], at: usize, kinds: &[FieldKind]) -> Option<Line>
+    requires { length kinds.now ≤ line_values }
+    ensures { result ≡ line_of s.now kinds.now at }
 {
-    let mut values = [0u64; LINE_VALUES];
-    let mut gone = false;
+    let mut values = [None; LINE_VALUES];
     let mut next = at;
-    let mut i: usize = 0;
-    while i < codes.len() {
-        let sep = separator(codes.len() - i);
-        let f = read_field(s, next, codes[i], sep);
-        let Field::At(v, g, n) = f else {
-            return ill_line();
-        };
-        values[i] = v;
-        gone = g;
-        next = n;
-        i += 1;
+    for (i, kind) in kinds.iter().enumerate() {
+        let f = read_field(s, next, *kind, separator(kinds.len() - i))?;
+        values[i] = f.value;
+        next = f.next;
     }
-    Line {
-        good: true,
-        next,
-        gone,
-        values,
-    }
+    Some(Line { next, values })
 }
 
+#[tactic(auto, using(crate::proofs::Fits::field_laws))]
 pub fn field_laws()
     ensures { FieldLaws }
 {}

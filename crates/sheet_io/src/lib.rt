@@ -1,12 +1,19 @@
 #![tactic(auto)]
 // How bytes go through a descriptor, in numbers: how many are left after each call of `read` or `write`, and whether to call again. The
 // calls themselves are made by `sheet_calls`.
-ghost use Rattle.std.specs.Prelude.{◌≡◌, ◌-◌};
-ghost use Rattle.sheet_io.specs.Progress.{start_of, answer_of, written_of, got_of, after_none, after_of, goes_on, place_of};
+ghost use Rattle.std.specs.Prelude.{◌≡◌};
+ghost use Rattle.sheet_io.specs.Progress.{start_of, answer_of, written_of, got_of, tries_of, has_failed, after_none, after_of, goes_on, place_of};
 ghost use Rattle.sheet_io.specs.Output.{OutputLaws};
 
 // How many calls in a row may move nothing.
 pub const TRIES: u32 = 60000;
+
+// The error of a call: it passes, as where the call was interrupted or would have had to wait, or it lasts.
+#[derive(Clone, Copy)]
+pub enum Failure {
+    Passes,
+    Lasts,
+}
 
 // What a call did: it moved some bytes, found that the input ends, moved none and may do better later, or failed.
 #[derive(Clone, Copy)]
@@ -17,43 +24,46 @@ pub enum Answer {
     Failed,
 }
 
-// How many bytes are left to be moved, how many calls in a row may still move nothing, and whether it has failed.
+// Whether to go on: how many calls in a row may still move nothing; or that the input has ended, or that it has failed.
+#[derive(Clone, Copy)]
+pub enum Stage {
+    Trying(u32),
+    Ended,
+    Failed,
+}
+
+// How many bytes are left to be moved, and whether to go on.
 #[derive(Clone, Copy)]
 pub struct Progress {
     pub left: usize,
-    pub tries: u32,
-    pub failed: bool,
+    pub stage: Stage,
 }
 
-// What a call did: how many bytes it moved, or what it means that it moved none; whether it failed, and whether its error passes.
-#[tactic(auto, unfolding(crate::specs::Progress::answer_of, conditions::specs::Conditions::stop_if))]
-fn decide(none: Answer, count: usize, failed: bool, passes: bool) -> Answer
-    ensures { result ≡ answer_of none count failed passes }
+// What a call with this outcome did, where `none` is what it means that it moved no bytes.
+#[tactic(auto, unfolding(crate::specs::Progress::answer_of))]
+fn decide(none: Answer, outcome: Result<usize, Failure>) -> Answer
+    ensures { result ≡ answer_of none outcome }
 {
-    if count > 0 {
-        return Answer::Moved(count);
+    match outcome {
+        Ok(0) => none,
+        Ok(count) => Answer::Moved(count),
+        Err(Failure::Passes) => Answer::Again,
+        Err(Failure::Lasts) => Answer::Failed,
     }
-    if !failed {
-        return none;
-    }
-    if passes {
-        return Answer::Again;
-    }
-    Answer::Failed
 }
 
 // What a write did.
-pub fn written(count: usize, failed: bool, passes: bool) -> Answer
-    ensures { result ≡ written_of count failed passes }
+pub fn written(outcome: Result<usize, Failure>) -> Answer
+    ensures { result ≡ written_of outcome }
 {
-    decide(Answer::Again, count, failed, passes)
+    decide(Answer::Again, outcome)
 }
 
 // What a read did: it moves nothing where the input ends.
-pub fn got(count: usize, failed: bool, passes: bool) -> Answer
-    ensures { result ≡ got_of count failed passes }
+pub fn got(outcome: Result<usize, Failure>) -> Answer
+    ensures { result ≡ got_of outcome }
 {
-    decide(Answer::End, count, failed, passes)
+    decide(Answer::End, outcome)
 }
 
 // Before the first call, with so many bytes to be moved.
@@ -63,16 +73,26 @@ pub fn begin(left: usize) -> Progress
 {
     Progress {
         left,
-        tries: TRIES,
-        failed: false,
+        stage: Stage::Trying(TRIES),
     }
 }
 
-// a less b; 0 where b is more.
-fn take_off(a: usize, b: usize) -> usize
-    ensures { result ≡ a - b }
-{
-    if b > a { 0 } else { a - b }
+impl Stage {
+    // How many calls in a row may still move nothing.
+    pub fn tries(self) -> u32
+        ensures { result ≡ tries_of self }
+    {
+        match self {
+            Stage::Trying(tries) => tries,
+            _ => 0,
+        }
+    }
+
+    pub fn has_failed(self) -> bool
+        ensures { result ≡ has_failed self }
+    {
+        matches!(self, Stage::Failed)
+    }
 }
 
 impl Progress {
@@ -80,18 +100,13 @@ impl Progress {
     fn after_none(self) -> Progress
         ensures { result ≡ after_none self }
     {
-        if self.tries > 1 {
-            return Progress {
-                left: self.left,
-                tries: self.tries - 1,
-                failed: false,
-            };
-        }
-        Progress {
-            left: self.left,
-            tries: 0,
-            failed: true,
-        }
+        let tries = self.stage.tries();
+        let stage = if tries > 1 {
+            Stage::Trying(tries - 1)
+        } else {
+            Stage::Failed
+        };
+        Progress { stage, ..self }
     }
 
     // After a call.
@@ -100,17 +115,15 @@ impl Progress {
         ensures { result ≡ after_of self answer }
     {
         match answer {
-            Answer::Moved(n) => begin(take_off(self.left, n)),
+            Answer::Moved(n) => begin(self.left.saturating_sub(n)),
             Answer::Again => self.after_none(),
             Answer::End => Progress {
-                left: self.left,
-                tries: 0,
-                failed: false,
+                stage: Stage::Ended,
+                ..self
             },
             Answer::Failed => Progress {
-                left: self.left,
-                tries: 0,
-                failed: true,
+                stage: Stage::Failed,
+                ..self
             },
         }
     }
@@ -120,10 +133,7 @@ impl Progress {
     pub fn goes_on(self) -> bool
         ensures { result ≡ goes_on self }
     {
-        if self.left == 0 {
-            return false;
-        }
-        self.tries > 0
+        self.left != 0 && self.stage.tries() > 0
     }
 
     // Where the bytes that are left begin, of so many.
@@ -131,7 +141,7 @@ impl Progress {
     pub fn place(self, count: usize) -> usize
         ensures { result ≡ place_of count self }
     {
-        take_off(count, self.left)
+        count.saturating_sub(self.left)
     }
 }
 

@@ -1,5 +1,6 @@
 -- Lengths of lines, and lines that are put one after the other.
 -- Assumes nothing.
+use Rattle.std.specs.Prelude.{Option, Some, None, Result, Ok, Err}
 use mathlib.Core.Path.{◌≡◌, refl, ap, ◌∙◌}
 use mathlib.Core.Bool.{Bool, true, false}
 use mathlib.Core.List.{List, [], ◌∷◌, ◌++◌}
@@ -9,12 +10,6 @@ use lib.ListN.{length, take, length-append}
 use Rattle.refusals.specs.declared.TransferError.{TransferError}
 use Rattle.rule_init_ranges.specs.declared.TextureInitRange.{TextureInitRange}
 use Rattle.rule_init_ranges.specs.declared.BufferInitRange.{BufferInitRange}
-use Rattle.plan_buffers.specs.declared.NextBufferCopy.{NextBufferCopy}
-use Rattle.plan_buffers.specs.declared.NextBufferCopy.TheVariants as B
-use Rattle.plan_buffer_texture.specs.declared.NextBufferTextureCopy.{NextBufferTextureCopy}
-use Rattle.plan_buffer_texture.specs.declared.NextBufferTextureCopy.TheVariants as U
-use Rattle.plan_textures.specs.declared.NextTextureCopy.{NextTextureCopy}
-use Rattle.plan_textures.specs.declared.NextTextureCopy.TheVariants as T
 use Rattle.slices.specs.Put.{Put}
 use Rattle.sheet_text.specs.Text.{spaced, line_text}
 use Rattle.slices.proofs.Puts.{put_as, put_then, put_length}
@@ -24,15 +19,16 @@ use Rattle.plan_rows.specs.Rows.{row_of, buffer_copy_numbers, buffer_texture_cop
 use Rattle.plan_rows.proofs.Fronts.{row_count, row_numbers, row_inside}
 use Rattle.plan_kinds.specs.declared.Plan.{Plan}
 use Rattle.plan_kinds.specs.declared.Plan.TheVariants.{Buffers, BufferTexture, Textures}
-use Rattle.copy_kinds.specs.declared.RangeSlot.{RangeSlot}
-use Rattle.copy_kinds.specs.declared.RangeSlot.TheVariants.{Texture, Buffer, Absent}
+use Rattle.copy_kinds.specs.declared.InitRange.{InitRange}
+use Rattle.copy_kinds.specs.declared.InitRange.TheVariants.{Texture, Buffer}
 use Rattle.copy_kinds.specs.declared.Ranges.{Ranges}
 use Rattle.plan_kinds.specs.declared.AskedRow.{AskedRow}
-use Rattle.copy_kinds.specs.declared.Planned.{Planned}
-use Rattle.copy_kinds.specs.declared.Planned.TheVariants as P
 use Rattle.copy_kinds.specs.Ranges.{count_of}
 use Rattle.plan_kinds.specs.Regions.{left_of, checked_bytes_of, buffer_numbers, buffer_texture_numbers, texture_numbers, region_numbers, behind_of, next_of}
 use Rattle.sheet_lines.specs.Lines.{sheet_word, texture_word, buffer_word, ok_word, refused_word, region_word, sheet_text, range_text, ranges_text, copy_text, plan_text, refusal_text, answer_text, region_text}
+use Rattle.plan_buffer_texture.specs.declared.BufferTextureCopy.{BufferTextureCopy}
+use Rattle.plan_buffers.specs.declared.BufferCopy.{BufferCopy}
+use Rattle.plan_textures.specs.declared.TextureCopy.{TextureCopy}
 
 -- ---- counts of numbers
 
@@ -48,20 +44,20 @@ pub refusal_count : (why : TransferError) → length (refusal_numbers why) ≡ 6
 unfolding refusal_numbers
 refusal_count why = refl
 
-buffer_few : (a : NextBufferCopy) → length (buffer_numbers a) ≤ 15
+buffer_few : (a : Option BufferCopy) → length (buffer_numbers a) ≤ 15
 unfolding buffer_numbers buffer_copy_numbers
-buffer_few (B.Region r) = omega arith
-buffer_few B.NoneLeft = omega arith
+buffer_few (Some r) = omega arith
+buffer_few None = omega arith
 
-buffer_texture_few : (a : NextBufferTextureCopy) → length (buffer_texture_numbers a) ≤ 15
+buffer_texture_few : (a : Option BufferTextureCopy) → length (buffer_texture_numbers a) ≤ 15
 unfolding buffer_texture_numbers buffer_texture_copy_numbers
-buffer_texture_few (U.Region r) = omega arith
-buffer_texture_few U.NoneLeft = omega arith
+buffer_texture_few (Some r) = omega arith
+buffer_texture_few None = omega arith
 
-texture_few : (a : NextTextureCopy) → length (texture_numbers a) ≤ 15
+texture_few : (a : Option TextureCopy) → length (texture_numbers a) ≤ 15
 unfolding texture_numbers texture_copy_numbers
-texture_few (T.Region r) = omega arith
-texture_few T.NoneLeft = omega arith
+texture_few (Some r) = omega arith
+texture_few None = omega arith
 
 pub numbers_few : (p : Plan) → length (region_numbers p) ≤ 15
 unfolding region_numbers
@@ -96,11 +92,11 @@ module _ (w : List ℕ) (dash : Bool) (ns : List ℕ) (n : ℕ) (count : length 
 
 -- ---- lengths
 
-pub range_few : (slot : RangeSlot) → length (range_text slot) ≤ 107
+pub range_few : (slot : Option InitRange) → length (range_text slot) ≤ 107
 unfolding range_text
-range_few (Texture i r) = omega (arith, line_few texture_word false (texture_range_numbers i r), texture_range_count i r)
-range_few (Buffer i r) = omega (arith, line_few buffer_word false (buffer_range_numbers i r), buffer_range_count i r)
-range_few Absent = omega arith
+range_few (Some (Texture i r)) = omega (arith, line_few texture_word false (texture_range_numbers i r), texture_range_count i r)
+range_few (Some (Buffer i r)) = omega (arith, line_few buffer_word false (buffer_range_numbers i r), buffer_range_count i r)
+range_few None = omega arith
 
 pub copy_few : (k : ℕ) → length (copy_text k) ≤ 25
 unfolding copy_text
@@ -138,12 +134,12 @@ ranges_few r =
     let c = length-append (range_text r.third) (range_text r.fourth) in
     omega (arith, a, b, c, range_few r.first, range_few r.second, range_few r.third, range_few r.fourth)
 
-pub answer_few : (k : ℕ) (a : Planned) → length (answer_text k a) ≤ 1024
+pub answer_few : (k : ℕ) (a : Result (Plan × Ranges) TransferError) → length (answer_text k a) ≤ 1024
 unfolding answer_text plan_text refusal_text
-answer_few k (P.Plan p r) =
+answer_few k (Ok (p, r)) =
     let line = line_text ok_word false (left_of p ∷ count_of r ∷ checked_bytes_of p ∷ []) in
     omega (arith, length-append (copy_text k) (line ++ ranges_text r), length-append line (ranges_text r), copy_few k, line_few ok_word false (left_of p ∷ count_of r ∷ checked_bytes_of p ∷ []), ranges_few r)
-answer_few k (P.Refused why) =
+answer_few k (Err why) =
     omega (arith, length-append (copy_text k) (line_text refused_word false (refusal_numbers why)), copy_few k, line_few refused_word false (refusal_numbers why), refusal_count why)
 
 line_some : (w : List ℕ) (d : Bool) (ns : List ℕ) → 0 < length (line_text w d ns)
@@ -158,10 +154,10 @@ pub region_some : (p : Plan) → 0 < length (region_text p)
 unfolding region_text
 region_some p = line_some _ _ _
 
-pub answer_some : (k : ℕ) (a : Planned) → 0 < length (answer_text k a)
+pub answer_some : (k : ℕ) (a : Result (Plan × Ranges) TransferError) → 0 < length (answer_text k a)
 unfolding answer_text plan_text refusal_text
-answer_some k (P.Plan p r) =
+answer_some k (Ok (p, r)) =
     let line = line_text ok_word false (left_of p ∷ count_of r ∷ checked_bytes_of p ∷ []) in
     omega (arith, length-append (copy_text k) (line ++ ranges_text r), length-append line (ranges_text r), line_some ok_word false (left_of p ∷ count_of r ∷ checked_bytes_of p ∷ []))
-answer_some k (P.Refused why) =
+answer_some k (Err why) =
     omega (arith, length-append (copy_text k) (line_text refused_word false (refusal_numbers why)), line_some refused_word false (refusal_numbers why))

@@ -1,14 +1,12 @@
 -- The lines of a listing as bytes.
-use Rattle.std.specs.Prelude.{ℕ, true, false, List, [], ◌∷◌, ◌++◌}
+use Rattle.std.specs.Prelude.{ℕ, true, false, List, [], ◌∷◌, ◌++◌, Result, Ok, Err, Option, Some, None}
 use Rattle.refusals.specs.declared.TransferError.{TransferError}
 use Rattle.sheet_text.specs.Text.{spaced, line_text}
 use Rattle.plan_rows.specs.Rows.{texture_range_numbers, buffer_range_numbers, refusal_numbers}
 use Rattle.plan_kinds.specs.declared.Plan.{Plan}
-use Rattle.copy_kinds.specs.declared.RangeSlot.{RangeSlot}
-use Rattle.copy_kinds.specs.declared.RangeSlot.TheVariants.{Texture, Buffer, Absent}
+use Rattle.copy_kinds.specs.declared.InitRange.{InitRange}
+use Rattle.copy_kinds.specs.declared.InitRange.TheVariants.{Texture, Buffer}
 use Rattle.copy_kinds.specs.declared.Ranges.{Ranges}
-use Rattle.copy_kinds.specs.declared.Planned.{Planned}
-use Rattle.copy_kinds.specs.declared.Planned.TheVariants as P
 use Rattle.copy_kinds.specs.Ranges.{count_of}
 use Rattle.plan_kinds.specs.Regions.{left_of, checked_bytes_of, region_numbers}
 
@@ -40,10 +38,10 @@ unfoldable pub sheet_text : ℕ → List ℕ
 sheet_text n = line_text sheet_word false (n ∷ [])
 
 -- `t` or `b` and its numbers
-unfoldable pub range_text : RangeSlot → List ℕ
-range_text (Texture i r) = line_text texture_word false (texture_range_numbers i r)
-range_text (Buffer i r) = line_text buffer_word false (buffer_range_numbers i r)
-range_text Absent = []
+unfoldable pub range_text : Option InitRange → List ℕ
+range_text (Some (Texture i r)) = line_text texture_word false (texture_range_numbers i r)
+range_text (Some (Buffer i r)) = line_text buffer_word false (buffer_range_numbers i r)
+range_text None = []
 
 unfoldable pub ranges_text : Ranges → List ℕ
 ranges_text r = range_text r.first ++ (range_text r.second ++ (range_text r.third ++ range_text r.fourth))
@@ -60,9 +58,9 @@ plan_text k p r = copy_text k ++ (line_text ok_word false (left_of p ∷ count_o
 unfoldable pub refusal_text : ℕ → TransferError → List ℕ
 refusal_text k why = copy_text k ++ line_text refused_word false (refusal_numbers why)
 
-unfoldable pub answer_text : ℕ → Planned → List ℕ
-answer_text k (P.Plan p r) = plan_text k p r
-answer_text k (P.Refused why) = refusal_text k why
+unfoldable pub answer_text : ℕ → Result (Plan × Ranges) TransferError → List ℕ
+answer_text k (Ok (p, r)) = plan_text k p r
+answer_text k (Err why) = refusal_text k why
 
 -- `r` and the next region's numbers, `-` where one is absent
 unfoldable pub region_text : Plan → List ℕ

@@ -7,7 +7,7 @@ ghost use Rattle.sheet_text.specs.Text.{line_text};
 ghost use Rattle.plan_rows.specs.Rows.{texture_range_numbers, buffer_range_numbers};
 ghost use Rattle.sheet_lines.specs.Lines.{texture_word, buffer_word, sheet_text, range_text, ranges_text, copy_text, plan_text, refusal_text, answer_text, region_text, piece_bytes};
 
-use copy_kinds::{Planned, RangeSlot, Ranges};
+use copy_kinds::{InitRange, Ranges};
 use plan_kinds::Plan;
 use plan_rows::Row;
 use refusals::TransferError;
@@ -26,18 +26,16 @@ fn put_row(out: &mut [u8], at: usize, word: &[u8], dash: bool, row: Row) -> usiz
     requires count_in_bounds_2 { at + (length word.now + (21 * row.count + 1)) ≤ length out.old }
     ensures { Put out.old out.new at (line_text word.now dash (take row.count row.values)) result }
 {
-    let count = row.count;
-    let values = row.values;
-    sheet_text::put_line(out, at, word, dash, &values[..count])
+    sheet_text::put_line(out, at, word, dash, &row.values[..row.count])
 }
 
 // `sheet n`.
+#[tactic(auto, unfolding(crate::specs::Lines::sheet_text))]
 pub fn put_sheet(out: &mut [u8], at: usize, n: u64) -> usize
     requires { at + piece_bytes ≤ length out.old }
     ensures { Put out.old out.new at (sheet_text n) result }
 {
-    let ns = [n];
-    sheet_text::put_line(out, at, b"sheet", false, &ns)
+    sheet_text::put_line(out, at, b"sheet", false, &[n])
 }
 
 fn put_texture_range(out: &mut [u8], at: usize, i: u32, r: TextureInitRange) -> usize
@@ -56,40 +54,39 @@ fn put_buffer_range(out: &mut [u8], at: usize, i: u32, r: BufferInitRange) -> us
     put_row(out, at, b"b", false, row)
 }
 
-fn put_range(out: &mut [u8], at: usize, slot: RangeSlot) -> usize
+#[tactic(auto, using(slices::proofs::Puts::put_none), unfolding(crate::specs::Lines::range_text))]
+fn put_range(out: &mut [u8], at: usize, slot: Option<InitRange>) -> usize
     requires { at + 128 ≤ length out.old }
     ensures { Put out.old out.new at (range_text slot) result }
 {
     match slot {
-        RangeSlot::Texture(i, r) => put_texture_range(out, at, i, r),
-        RangeSlot::Buffer(i, r) => put_buffer_range(out, at, i, r),
-        RangeSlot::Absent => at,
+        Some(InitRange::Texture(i, r)) => put_texture_range(out, at, i, r),
+        Some(InitRange::Buffer(i, r)) => put_buffer_range(out, at, i, r),
+        None => at,
     }
 }
 
+#[tactic(auto, using(crate::proofs::LineLaws::range_few, slices::proofs::Puts::put_length))]
 fn put_ranges(out: &mut [u8], at: usize, ranges: Ranges) -> usize
     requires { at + 512 ≤ length out.old }
     ensures { Put out.old out.new at (ranges_text ranges) result }
 {
-    let first = ranges.first;
-    let second = ranges.second;
-    let third = ranges.third;
-    let fourth = ranges.fourth;
-    let a = put_range(out, at, first);
-    let b = put_range(out, a, second);
-    let c = put_range(out, b, third);
-    put_range(out, c, fourth)
+    let a = put_range(out, at, ranges.first);
+    let b = put_range(out, a, ranges.second);
+    let c = put_range(out, b, ranges.third);
+    put_range(out, c, ranges.fourth)
 }
 
+#[tactic(auto, using(slices::proofs::Puts::put_then), unfolding(crate::specs::Lines::copy_text))]
 fn put_copy(out: &mut [u8], at: usize, k: u64) -> usize
     requires { at + 32 ≤ length out.old }
     ensures { Put out.old out.new at (copy_text k) result }
 {
-    let ns = [k];
     let a = sheet_text::put_bytes(out, at, b"copy");
-    sheet_text::put_numbers(out, a, false, &ns)
+    sheet_text::put_numbers(out, a, false, &[k])
 }
 
+#[tactic(auto, using(crate::proofs::LineLaws::copy_few, sheet_text::proofs::Puts::line_few, slices::proofs::Puts::put_length))]
 fn put_plan(out: &mut [u8], at: usize, k: u64, plan: Plan, ranges: Ranges) -> usize
     requires { at + piece_bytes ≤ length out.old }
     ensures { Put out.old out.new at (plan_text k plan ranges) result }
@@ -114,13 +111,19 @@ fn put_refusal(out: &mut [u8], at: usize, k: u64, why: TransferError) -> usize
 }
 
 // A copy's answer, with its ranges.
-pub fn put_answer(out: &mut [u8], at: usize, k: u64, answer: Planned) -> usize
+#[tactic(auto, unfolding(crate::specs::Lines::answer_text))]
+pub fn put_answer(
+    out: &mut [u8],
+    at: usize,
+    k: u64,
+    answer: Result<(Plan, Ranges), TransferError>,
+) -> usize
     requires { at + piece_bytes ≤ length out.old }
     ensures { Put out.old out.new at (answer_text k answer) result }
 {
     match answer {
-        Planned::Plan(plan, ranges) => put_plan(out, at, k, plan, ranges),
-        Planned::Refused(why) => put_refusal(out, at, k, why),
+        Ok((plan, ranges)) => put_plan(out, at, k, plan, ranges),
+        Err(why) => put_refusal(out, at, k, why),
     }
 }
 
@@ -131,8 +134,9 @@ pub fn put_region(out: &mut [u8], at: usize, plan: Plan) -> PutRegion
     ensures plan_value { result.plan ≡ behind_of plan }
 {
     let asked = plan.next();
-    let row = asked.row;
-    let behind = asked.plan;
-    let next = put_row(out, at, b"r", true, row);
-    PutRegion { next, plan: behind }
+    let next = put_row(out, at, b"r", true, asked.row);
+    PutRegion {
+        next,
+        plan: asked.plan,
+    }
 }

@@ -1,29 +1,24 @@
 -- What a step puts, and the state after it, by the state before.
 -- Assumes nothing.
-use mathlib.Core.Path.{◌≡◌, refl, sym, ap, ◌∙◌}
-use mathlib.Core.Bool.{Bool, true, false}
-use mathlib.Core.List.{List, [], ◌∷◌, ◌++◌, append_assoc}
-use Prim.Native.Nat.{ℕ, zero, suc, ◌+◌, ◌-◌, ◌≤◌, ◌<◌}
-use native.Mathlib.Omega.{arith}
-use borrow.Author.Tests.{lt-ltb, le-ltb, ltb-true, ltb-false}
-use lib.Dec.{ltb}
-use lib.ListN.{length, length-append}
-use Rattle.conditions.specs.Conditions.{pick}
+use Rattle.std.specs.Prelude.{Result}
+use mathlib.Core.Path.{◌≡◌, ap, ◌∙◌}
+use mathlib.Core.Bool.{true, false}
+use mathlib.Core.List.{List, []}
+use Prim.Native.Nat.{ℕ, ◌-◌, ◌≤◌, ◌<◌}
+use borrow.Author.Tests.{lt-ltb, le-ltb}
 use Rattle.sheet_fields.specs.declared.Line.{Line}
 use Rattle.sheet_sections.specs.Rows.{copies, section_line}
 use Rattle.plan_kinds.specs.declared.Plan.{Plan}
-use Rattle.copy_kinds.specs.declared.Planned.{Planned}
-use Rattle.copy_kinds.specs.declared.Planned.TheVariants as P
 use Rattle.plan_kinds.specs.Regions.{left_of, behind_of}
-use Rattle.plan_kinds.proofs.Behind.{behind_left}
 use Rattle.sheet_copies.specs.CopyLines.{line_planned}
 use Rattle.slices.specs.Put.{Put}
-use Rattle.sheet_text.specs.Text.{spaced, line_text}
 use Rattle.slices.proofs.Puts.{put_as, put_none}
-use Rattle.sheet_lines.specs.Lines.{ok_word, refused_word, sheet_text, copy_text, plan_text, refusal_text, answer_text, region_text}
+use Rattle.sheet_lines.specs.Lines.{sheet_text, answer_text, region_text}
 use Rattle.sheet_copies.specs.Answers.{answer_at}
 use Rattle.sheet_listing.specs.declared.Lister.{Lister}
-use Rattle.sheet_listing.specs.Listing.{regions_text, no_plan, plan_answered, copy_answer, copies_text, state_with, answer_of, piece_of, next_of, text_left}
+use Rattle.sheet_listing.specs.Listing.{no_plan, plan_answered, state_with, answer_of, piece_of, next_of}
+use Rattle.copy_kinds.specs.declared.Ranges.{Ranges}
+use Rattle.refusals.specs.declared.TransferError.{TransferError}
 
 -- ---- one step, by the state
 
@@ -76,7 +71,7 @@ module _ (s ts bs : List ℕ) (st : Lister) {l m : List ℕ} {at r : ℕ} where
       (put_as put (piece_region s ts bs st a some), f ∙ ap (state_with st st.left st.at) b ∙ next_region s ts bs st a some)
 
   pub stepped_copy :
-      (n k : ℕ) (row : Line) (answer : Planned) (p : Plan) (q : Lister) → st.ill ≡ false → n ≡ left_of st.plan → n ≤ 0 → 0 < st.left
+      (n k : ℕ) (row : Line) (answer : Result (Plan × Ranges) TransferError) (p : Plan) (q : Lister) → st.ill ≡ false → n ≡ left_of st.plan → n ≤ 0 → 0 < st.left
       → row ≡ section_line s copies st.at → answer ≡ line_planned s ts bs st.device row → k ≡ st.total - st.left
       → Put l m at (answer_text k answer) r → p ≡ plan_answered answer → q ≡ state_with st (st.left - 1) row.next p → Put l m at (piece_of s ts bs st) r × (q ≡ next_of s ts bs st)
   unfolding answer_of answer_at

@@ -3,7 +3,7 @@
 use mathlib.Core.Path.{◌≡◌, refl, sym, ap, ◌∙◌}
 use mathlib.Core.Bool.{Bool, true, false}
 use mathlib.Core.List.{List, [], ◌++◌}
-use Prim.Native.Nat.{ℕ, ◌+◌, ◌≤◌, min}
+use Prim.Native.Nat.{ℕ, ◌≤◌, min}
 use native.Mathlib.Omega.{arith}
 use native.Mathlib.Nat.{min-eq_left, min-eq_right}
 use borrow.Author.Tests.{leb-true, leb-false}
@@ -14,7 +14,7 @@ use Rattle.records.specs.declared.Device.{Device}
 use Rattle.plan_kinds.specs.declared.Plan.{Plan}
 use Rattle.plan_kinds.specs.Regions.{left_of}
 use Rattle.sheet_sections.specs.declared.Parts.{Parts}
-use Rattle.sheet_sections.specs.declared.Sheet.TheVariants as W
+use Rattle.std.specs.Prelude.{Ok}
 use Rattle.sheet_sections.specs.Rows.{textures, buffers, places_of}
 use Rattle.sheet_sections.specs.Sheet.{sheet_of}
 use Rattle.sheet_sections.proofs.PlaceLaws.{found, textures_few, buffers_few}
@@ -26,7 +26,7 @@ use Rattle.sheet_listing.specs.Listing.{regions_text, no_plan, listing_from, lis
 -- ---- the start
 
 pub started_good :
-    (s : List ℕ) (p : Parts) (ts bs : List ℕ) (device : Device) (plan : Plan) → W.Good p ≡ sheet_of s
+    (s : List ℕ) (p : Parts) (ts bs : List ℕ) (device : Device) (plan : Plan) → Ok p ≡ sheet_of s
     → ts ≡ sets (replicate 64 0) 0 (places_of s textures p.textures.count p.textures.first)
     → bs ≡ sets (replicate 64 0) 0 (places_of s buffers p.buffers.count p.buffers.first)
     → device ≡ device_at s p → plan ≡ no_plan

@@ -1,22 +1,21 @@
 -- The whole listing of a sheet, from its bytes; and the state between one piece of it and the next.
-use Rattle.std.specs.Prelude.{◌≡◌, false, List, [], ◌++◌, ℕ, zero, suc, ◌-◌, ◌≤◌, ltb, take}
+use Rattle.std.specs.Prelude.{◌≡◌, false, Result, Ok, Err, List, [], ◌++◌, ℕ, zero, suc, ◌-◌, ◌≤◌, ltb, take, None}
 use Rattle.conditions.specs.Conditions.{pick, ◌$◌}
-use Rattle.rule_init_ranges.specs.declared.OptionRange.TheVariants.{Absent}
 use Rattle.records.specs.declared.Device.{Device}
 use Rattle.plan_kinds.specs.declared.Plan.{Plan}
 use Rattle.plan_kinds.specs.declared.Plan.TheVariants.{Buffers}
-use Rattle.copy_kinds.specs.declared.Planned.{Planned}
-use Rattle.copy_kinds.specs.declared.Planned.TheVariants as P
 use Rattle.plan_kinds.specs.Regions.{left_of, behind_of}
-use Rattle.sheet_sections.specs.declared.Sheet.{Sheet}
-use Rattle.sheet_sections.specs.declared.Sheet.TheVariants as W
+use Rattle.sheet_sections.specs.declared.Parts.{Parts}
+use Rattle.sheet_sections.specs.declared.SheetError.{SheetError}
 use Rattle.sheet_sections.specs.Rows.{copies, section_line}
-use Rattle.sheet_sections.specs.Sheet.{sheet_of}
+use Rattle.sheet_sections.specs.Sheet.{sheet_of, line_number}
 use Rattle.sheet_copies.specs.Answers.{texture_places, buffer_places, device_at, answer_at}
 use Rattle.slices.specs.Put.{Put}
 use Rattle.sheet_listing.specs.declared.Lister.{Lister}
 use Rattle.sheet_listing.specs.declared.Listing.{Listing}
 use Rattle.sheet_lines.specs.Lines.{piece_bytes, sheet_text, answer_text, region_text}
+use Rattle.copy_kinds.specs.declared.Ranges.{Ranges}
+use Rattle.refusals.specs.declared.TransferError.{TransferError}
 
 -- ---- the whole
 
@@ -32,17 +31,17 @@ no_plan =
     (record {
       region = record { src_offset = 0; dst_offset = 0; size = 0 };
       left = 0;
-      dst_range = Absent;
-      src_range = Absent;
+      dst_range = None;
+      src_range = None;
       bytes_checked = 0;
     })
 
-unfoldable pub plan_answered : Planned → Plan
-plan_answered (P.Plan p r) = p
-plan_answered (P.Refused e) = no_plan
+unfoldable pub plan_answered : Result (Plan × Ranges) TransferError → Plan
+plan_answered (Ok (p, r)) = p
+plan_answered (Err e) = no_plan
 
 -- a copy's answer, then its regions
-unfoldable pub copy_answer : ℕ → Planned → List ℕ
+unfoldable pub copy_answer : ℕ → Result (Plan × Ranges) TransferError → List ℕ
 copy_answer k a = answer_text k a ++ regions_text (left_of (plan_answered a)) (plan_answered a)
 
 -- the last n of so many copies, whose lines begin at a place; ts and bs are where texture and buffer lines begin
@@ -51,10 +50,10 @@ module _ (s ts bs : List ℕ) (device : Device) (total : ℕ) where
   copies_text zero at = []
   copies_text (suc n) at = copy_answer (total - suc n) (answer_at s ts bs device at) ++ copies_text n (section_line s copies at).next
 
-unfoldable pub listing_from : List ℕ → Sheet → List ℕ
-listing_from s (W.Good p) =
+unfoldable pub listing_from : List ℕ → Result Parts SheetError → List ℕ
+listing_from s (Ok p) =
     copies_text s (texture_places s p) (buffer_places s p) (device_at s p) p.copies.count p.copies.count p.copies.first
-listing_from s (W.Ill n) = sheet_text n
+listing_from s (Err e) = sheet_text (line_number e)
 
 -- the listing of a sheet
 unfoldable pub listing_of : List ℕ → List ℕ
@@ -67,7 +66,7 @@ state_with st left at plan = record { ill = false; line = 0; total = st.total; l
 
 module _ (s ts bs : List ℕ) (st : Lister) where
   -- the answer to the next copy
-  unfoldable pub answer_of : Planned
+  unfoldable pub answer_of : Result (Plan × Ranges) TransferError
   answer_of = answer_at s ts bs st.device st.at
 
   -- what is put next: an ill sheet's line; a region's; a copy's answer; nothing

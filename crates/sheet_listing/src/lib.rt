@@ -1,17 +1,18 @@
 #![tactic(auto)]
 // The listing of a job sheet, made piece by piece into what the caller lends.
-ghost use Rattle.std.specs.Prelude.{◌≡◌, List, ℕ, ◌+◌, ◌-◌, ◌≤◌, min, length};
+ghost use Rattle.std.specs.Prelude.{◌≡◌, Ok, List, ℕ, ◌+◌, ◌-◌, ◌≤◌, min, length};
 ghost use Rattle.sheet_sections.specs.Sheet.{sheet_of};
 ghost use Rattle.slices.specs.Put.{Put};
 ghost use Rattle.sheet_lines.specs.Lines.{piece_bytes, sheet_text};
 ghost use Rattle.sheet_listing.specs.Listing.{no_plan, plan_answered, piece_of, state_with, next_of, text_left, rest_of, listing_of, Fills, Ends, Listed};
 
-use copy_kinds::Planned;
+use copy_kinds::Ranges;
 use plan_buffers::{BufferCopy, BufferPlan};
 use plan_kinds::Plan;
 use records::Device;
-use rule_init_ranges::OptionRange;
-use sheet_sections::{Parts, Sheet};
+use refusals::TransferError;
+use sheet_copies::Sheet;
+use sheet_sections::{Parts, Section};
 
 // Room for any piece.
 const PIECE_BYTES: usize = 1024;
@@ -72,24 +73,24 @@ fn no_plan() -> Plan
             size: 0,
         },
         left: 0,
-        dst_range: OptionRange::Absent,
-        src_range: OptionRange::Absent,
+        dst_range: None,
+        src_range: None,
         bytes_checked: 0,
     })
 }
 
-fn plan_of(answer: Planned) -> Plan
+fn plan_of(answer: Result<(Plan, Ranges), TransferError>) -> Plan
     ensures { result ≡ plan_answered answer }
 {
     match answer {
-        Planned::Plan(plan, _) => plan,
-        Planned::Refused(_) => no_plan(),
+        Ok((plan, _)) => plan,
+        Err(_) => no_plan(),
     }
 }
 
 // A good sheet, with the places of its records. Its counts are at most 64, so none is cut off.
 fn start_good(s: &[u8], p: Parts) -> Listing
-    requires { Sheet.Good p ≡ sheet_of s.now }
+    requires { Ok p ≡ sheet_of s.now }
     ensures { rest_of s.now result ≡ listing_of s.now }
 {
     let t = p.textures;
@@ -97,8 +98,8 @@ fn start_good(s: &[u8], p: Parts) -> Listing
     let copies = p.copies;
     let mut textures = [0usize; sheet_sections::MAX_RECORDS];
     let mut buffers = [0usize; sheet_sections::MAX_RECORDS];
-    sheet_sections::find_places(s, sheet_sections::TEXTURES, t.count, t.first, &mut textures);
-    sheet_sections::find_places(s, sheet_sections::BUFFERS, b.count, b.first, &mut buffers);
+    sheet_sections::find_places(s, Section::Textures, t.count, t.first, &mut textures);
+    sheet_sections::find_places(s, Section::Buffers, b.count, b.first, &mut buffers);
     let device = sheet_copies::device_at(s, p);
     let plan = no_plan();
     let lister = Lister {
@@ -151,10 +152,9 @@ fn start_ill(line: usize) -> Listing
 pub fn start(s: &[u8]) -> Listing
     ensures { rest_of s.now result ≡ listing_of s.now }
 {
-    let read = sheet_sections::read_sheet(s);
-    match read {
-        Sheet::Good(p) => start_good(s, p),
-        Sheet::Ill(line) => start_ill(line),
+    match sheet_sections::read_sheet(s) {
+        Ok(p) => start_good(s, p),
+        Err(e) => start_ill(e.line()),
     }
 }
 
@@ -199,7 +199,6 @@ impl Lister {
         ensures lister_value { result.lister ≡ next_of s.now textures.now buffers.now self }
     {
         let plan = self.plan;
-        let device = self.device;
         if self.ill {
             let next = sheet_lines::put_sheet(out, at, self.line as u64);
             return Stepped {
@@ -216,8 +215,14 @@ impl Lister {
             };
         }
         if self.left > 0 {
-            let line = sheet_sections::read_row(s, sheet_sections::COPIES, self.at);
-            let answer = sheet_copies::plan_line(s, textures, buffers, device, line);
+            let line = sheet_sections::read_row(s, Section::Copies, self.at);
+            let sheet = Sheet {
+                text: s,
+                textures,
+                buffers,
+                device: self.device,
+            };
+            let answer = sheet.plan_line(line);
             let next = sheet_lines::put_answer(out, at, copy_number(self.total, self.left), answer);
             return Stepped {
                 next,
@@ -267,11 +272,7 @@ fn put_pieces(
 fn kept(count: usize) -> usize
     ensures { result ≡ min count 64 }
 {
-    if count > sheet_sections::MAX_RECORDS {
-        sheet_sections::MAX_RECORDS
-    } else {
-        count
-    }
+    count.min(sheet_sections::MAX_RECORDS)
 }
 
 // The next part of the listing from the slice's start on, as much as there is surely room for. Nothing is put only where nothing

@@ -8,7 +8,8 @@ use lib.ListN.{length, take, replicate}
 use lib.Seq.{sets, length-sets, length-take-le}
 use Rattle.records.specs.declared.Device.{Device}
 use Rattle.sheet_sections.specs.declared.Parts.{Parts}
-use Rattle.sheet_sections.specs.declared.Sheet.TheVariants as W
+use Rattle.std.specs.Prelude.{Ok}
+use Rattle.sheet_sections.specs.declared.Section.{Section}
 use Rattle.sheet_sections.specs.Rows.{textures, buffers, places_of}
 use Rattle.sheet_sections.specs.Sheet.{sheet_of}
 use Rattle.sheet_sections.proofs.PlaceLaws.{found, textures_few, buffers_few}
@@ -17,14 +18,14 @@ use Rattle.sheet_outcome.specs.declared.Outcome.TheVariants.{Accepted, Refused}
 use Rattle.sheet_outcome.specs.Outcome.{any_refused, outcome_from}
 
 -- an array with the places of so many lines has room for them
-module _ (s : List ℕ) (section n first : ℕ) (l : List ℕ) (is : l ≡ sets (replicate 64 0) 0 (places_of s section n first)) (few : n ≤ 64) where
+module _ (s : List ℕ) (section : Section) (n first : ℕ) (l : List ℕ) (is : l ≡ sets (replicate 64 0) 0 (places_of s section n first)) (few : n ≤ 64) where
   pub inside : n ≤ length l
   inside = rw (is, length-sets (replicate 64 0) 0 (places_of s section n first)) few
 
   pub counted : n ≡ length (take n l)
   counted = sym (length-take-le n l inside)
 
-module _ (s : List ℕ) (p : Parts) (ts bs : List ℕ) (device : Device) (t : Bool) (good : W.Good p ≡ sheet_of s)
+module _ (s : List ℕ) (p : Parts) (ts bs : List ℕ) (device : Device) (t : Bool) (good : Ok p ≡ sheet_of s)
     (at-textures : ts ≡ sets (replicate 64 0) 0 (places_of s textures p.textures.count p.textures.first))
     (at-buffers : bs ≡ sets (replicate 64 0) 0 (places_of s buffers p.buffers.count p.buffers.first))
     (its-device : device ≡ device_at s p)
@@ -39,10 +40,10 @@ module _ (s : List ℕ) (p : Parts) (ts bs : List ℕ) (device : Device) (t : Bo
         its-device,
       )
 
-  pub one_refused : t ≡ true → Refused ≡ outcome_from s (W.Good p)
+  pub one_refused : t ≡ true → Refused ≡ outcome_from s (Ok p)
   unfolding outcome_from
   one_refused e = rw (refused, e)
 
-  pub none_refused : t ≡ false → Accepted ≡ outcome_from s (W.Good p)
+  pub none_refused : t ≡ false → Accepted ≡ outcome_from s (Ok p)
   unfolding outcome_from
   none_refused e = rw (refused, e)

@@ -1,15 +1,17 @@
 #![tactic(auto)]
 // What becomes of a job sheet as a whole: whether every copy is accepted.
-ghost use Rattle.std.specs.Prelude.{◌≡◌};
+ghost use Rattle.std.specs.Prelude.{◌≡◌, Ok};
 ghost use Rattle.sheet_sections.specs.Sheet.{sheet_of};
 ghost use Rattle.sheet_outcome.specs.Outcome.{status_of, is_refused, any_refused, outcome_from, outcome_of};
 
-use copy_kinds::Planned;
-use records::Device;
-use sheet_sections::{Parts, Sheet};
+use copy_kinds::Ranges;
+use plan_kinds::Plan;
+use refusals::TransferError;
+use sheet_copies::Sheet;
+use sheet_sections::{Parts, Section};
 
 // Every copy is accepted; a copy is refused; the sheet is ill.
-#[derive(Clone, Copy)]
+#[derive(Clone, Copy, PartialEq, Eq)]
 pub enum Outcome {
     Accepted,
     Refused,
@@ -17,45 +19,40 @@ pub enum Outcome {
 }
 
 // The number by which a program says so.
-pub fn status_of(outcome: Outcome) -> u8
-    ensures { result ≡ status_of outcome }
-{
-    match outcome {
-        Outcome::Accepted => 0,
-        Outcome::Refused => 1,
-        Outcome::Ill => 2,
+impl From<Outcome> for u8 {
+    ghost from_gives = { λ outcome number. number ≡ status_of outcome };
+
+    #[tactic(auto, unfolding(crate::specs::Outcome::status_of))]
+    fn from(outcome: Outcome) -> u8 {
+        match outcome {
+            Outcome::Accepted => 0,
+            Outcome::Refused => 1,
+            Outcome::Ill => 2,
+        }
     }
 }
 
-fn is_refused(answer: Planned) -> bool
+#[tactic(auto, unfolding(crate::specs::Outcome::is_refused))]
+fn is_refused(answer: Result<(Plan, Ranges), TransferError>) -> bool
     ensures { result ≡ is_refused answer }
 {
     match answer {
-        Planned::Plan(_, _) => false,
-        Planned::Refused(_) => true,
+        Ok((_, _)) => false,
+        Err(_) => true,
     }
 }
 
-// Whether one of so many copies is refused, whose lines begin at a place; textures and buffers are where the lines of these begin.
-fn any_refused(
-    s: &[u8],
-    textures: &[usize],
-    buffers: &[usize],
-    device: Device,
-    count: usize,
-    first: usize,
-) -> bool
-    ensures { result ≡ any_refused s.now textures.now buffers.now device count first }
+// Whether one of so many copies is refused, whose lines begin at a place.
+#[tactic(auto, using(crate::proofs::RefusedLaws::refused_here, crate::proofs::RefusedLaws::refused_on, crate::proofs::RefusedLaws::refused_none))]
+fn any_refused(sheet: Sheet, count: usize, first: usize) -> bool
+    ensures { result ≡ any_refused sheet.entry.text.now sheet.entry.textures.now sheet.entry.buffers.now sheet.entry.device count first }
 {
-    let mut left = count;
     let mut at = first;
-    while left > 0 {
-        let line = sheet_sections::read_row(s, sheet_sections::COPIES, at);
-        let answer = sheet_copies::plan_line(s, textures, buffers, device, line);
-        if is_refused(answer) {
+    for _ in 0..count {
+        let line = sheet_sections::read_row(sheet.text, Section::Copies, at);
+        if is_refused(sheet.plan_line(line)) {
             return true;
         }
-        left -= 1;
         at = line.next;
     }
     false
@@ -63,39 +60,34 @@ fn any_refused(
 
 // A good sheet's counts are at most 64, so no place is cut off.
 fn good_outcome(s: &[u8], p: Parts) -> Outcome
-    requires { Sheet.Good p ≡ sheet_of s.now }
-    ensures { result ≡ outcome_from s.now (Sheet.Good p) }
+    requires { Ok p ≡ sheet_of s.now }
+    ensures { result ≡ outcome_from s.now (Ok p) }
 {
     let t = p.textures;
     let b = p.buffers;
     let copies = p.copies;
     let mut textures = [0usize; sheet_sections::MAX_RECORDS];
     let mut buffers = [0usize; sheet_sections::MAX_RECORDS];
-    sheet_sections::find_places(s, sheet_sections::TEXTURES, t.count, t.first, &mut textures);
-    sheet_sections::find_places(s, sheet_sections::BUFFERS, b.count, b.first, &mut buffers);
-    let device = sheet_copies::device_at(s, p);
-    let m = t.count;
-    let n = b.count;
-    let refused = any_refused(
-        s,
-        &textures[..m],
-        &buffers[..n],
-        device,
-        copies.count,
-        copies.first,
-    );
-    if refused {
+    sheet_sections::find_places(s, Section::Textures, t.count, t.first, &mut textures);
+    sheet_sections::find_places(s, Section::Buffers, b.count, b.first, &mut buffers);
+    let sheet = Sheet {
+        text: s,
+        textures: &textures[..t.count],
+        buffers: &buffers[..b.count],
+        device: sheet_copies::device_at(s, p),
+    };
+    if any_refused(sheet, copies.count, copies.first) {
         return Outcome::Refused;
     }
     Outcome::Accepted
 }
 
+#[tactic(auto, unfolding(crate::specs::Outcome::outcome_of, crate::specs::Outcome::outcome_from))]
 pub fn find_outcome(s: &[u8]) -> Outcome
     ensures { result ≡ outcome_of s.now }
 {
-    let sheet = sheet_sections::read_sheet(s);
-    match sheet {
-        Sheet::Good(p) => good_outcome(s, p),
-        Sheet::Ill(_) => Outcome::Ill,
+    match sheet_sections::read_sheet(s) {
+        Ok(p) => good_outcome(s, p),
+        Err(_) => Outcome::Ill,
     }
 }

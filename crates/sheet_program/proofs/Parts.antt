@@ -8,11 +8,13 @@ use native.Mathlib.Omega.{arith}
 use native.Mathlib.Nat.{pos_of_ne-zero}
 use borrow.Author.Tests.{not-true}
 use lib.ListN.{length, take, drop, length-append, take-append-drop}
+use Rattle.std.specs.Prelude.{Result, Ok, Err, IsErr, OnErr, is_ok}
+use Rattle.sheet_calls.specs.declared.Error.{Error}
 use Rattle.sheet_lines.specs.Lines.{piece_bytes}
 use Rattle.slices.proofs.Puts.{put_take, put_length}
 use Rattle.sheet_listing.specs.declared.Listing.{Listing}
 use Rattle.sheet_listing.specs.Listing.{rest_of, listing_of, Fills, Ends}
-use Rattle.sheet_io.specs.Progress.{place_of}
+use Rattle.sheet_io.specs.Progress.{place_of, has_failed}
 use Rattle.sheet_io.proofs.OutputProofs.{output_laws}
 use Rattle.sheet_calls.specs.Calls.{Sends}
 use Rattle.sheet_outcome.specs.declared.Outcome.{Outcome}
@@ -53,22 +55,21 @@ module _ (s : List ℕ) (st : Listing) where
   pub lists_start : rest_of s st ≡ listing_of s → ListingOn s st
   lists_start e = record { onto = λ taken whole d. record { first = st; start = e; taken = taken; delivers = d } }
 
-module _ {s : List ℕ} {st next : Listing} {n : ℕ} {whole : Bool} (part : PartSent s st next n whole) where
-  pub part_less : (n ≡ 0 → ⊥) → length (rest_of s next) < length (rest_of s st)
-  part_less some =
+module _ {s : List ℕ} {st next : Listing} {n : ℕ} where
+  pub part_less : {whole : Bool} → PartSent s st next n whole → (n ≡ 0 → ⊥) → length (rest_of s next) < length (rest_of s st)
+  part_less part some =
       let k : length (rest_of s st) ≡ length part.text + length (rest_of s next) =
       ap (λ (l : List ℕ). length l) part.left ∙ length-append part.text (rest_of s next) in
       omega (arith, k, part.count, pos_of_ne-zero some)
 
-  module _ (i : ListingOn s st) where
-    pub lists_stop : whole ≡ false → Lists s false
-    lists_stop e = i.onto _ false (stop next part.left (subst (Sends part.text) e part.sent))
+  pub lists_stop : PartSent s st next n false → ListingOn s st → Lists s false
+  lists_stop part i = i.onto _ false (stop next part.left part.sent)
 
-    pub lists_on : whole ≡ true → ListingOn s next
-    lists_on e = record { onto = λ taken all_of d. i.onto _ all_of (on next part.left (subst (Sends part.text) e part.sent) d) }
+  pub lists_on : PartSent s st next n true → ListingOn s st → ListingOn s next
+  lists_on part i = record { onto = λ taken all_of d. i.onto _ all_of (on next part.left part.sent d) }
 
-    pub lists_end : n ≡ 0 → Lists s true
-    lists_end e = i.onto _ true (all (part.none e))
+  pub lists_end : {whole : Bool} → PartSent s st next n whole → ListingOn s st → n ≡ 0 → Lists s true
+  lists_end part i e = i.onto _ true (all (part.none e))
 
 -- ---- a turn of the loop, over a buffer that keeps its length
 
@@ -84,21 +85,21 @@ module _ {s out₀ out m : List ℕ} {st : Listing} (next : Listing) {n : ℕ} (
   pub turn_same : length m ≡ length out₀
   turn_same = put_length filled.0.put ∙ t.same
 
-  module _ {whole : Bool} (sent : Sends (take n m) whole) where
-    part : PartSent s st next n whole
-    part = part_sent t.room filled sent
+  part : {whole : Bool} → Sends (take n m) whole → PartSent s st next n whole
+  part sent = part_sent t.room filled sent
 
-    pub turn_stops : whole ≡ false → Lists s false
-    turn_stops e = lists_stop part t.listing e
+  pub turn_stops : Sends (take n m) false → Lists s false
+  turn_stops sent = lists_stop (part sent) t.listing
 
+  module _ (sent : Sends (take n m) true) where
     pub turn_ends : n ≡ 0 → Lists s true
-    turn_ends e = lists_end part t.listing e
+    turn_ends e = lists_end (part sent) t.listing e
 
     pub turn_less : (n ≡ 0 → ⊥) → length (rest_of s next) < length (rest_of s st)
-    turn_less some = part_less part some
+    turn_less some = part_less (part sent) some
 
-    pub turn_goes_on : whole ≡ true → Turn s out₀ m next
-    turn_goes_on e = record { listing = lists_on part t.listing e; same = turn_same; room = omega (arith, t.room, put_length filled.0.put) }
+    pub turn_goes_on : Turn s out₀ m next
+    turn_goes_on = record { listing = lists_on (part sent) t.listing; same = turn_same; room = omega (arith, t.room, put_length filled.0.put) }
 
 -- ---- what was taken
 
@@ -121,7 +122,7 @@ delivered s (stop {st = st} next {text} left o) =
       same = λ z. absurd (false≢true z);
     }
 delivered s (on {st = st} next {text} {rest} {whole} left o d) =
-    let w = (output_laws.output text o.taken o.last o.writes).whole o.ended (not_failed o.last.failed o.told) in
+    let w = (output_laws.output text o.taken o.last o.writes).whole o.ended (not_failed (has_failed o.last.stage) o.told) in
     let f = delivered s d in
     record {
       rest = f.rest;
@@ -136,20 +137,19 @@ every_listing s whole l =
 
 -- ---- the status
 
-module _ {s heading : List ℕ} {sent : Bool} (h : Sends heading sent) where
-  pub status_unheaded : sent ≡ false → StatusFor s heading 3
-  status_unheaded e = no_heading (subst (Sends heading) e h)
+-- a listing is whole just where no error is answered
+pub lists_err : {s : List ℕ} {A : Type 0} (r : Result A Error) → IsErr r → Lists s false → Lists s (is_ok r)
+lists_err (Ok a) is l = cc
+lists_err (Err e) is l = l
 
-  module _ (g : sent ≡ true) {whole : Bool} (l : Lists s whole) where
-    headed : Sends heading true
-    headed = subst (Sends heading) g h
+module _ (s : List ℕ) {heading : List ℕ} {A : Type 0} where
+  pub unheaded : (r : Result A Error) → Sends heading false → OnErr r (StatusFor s heading 3)
+  unheaded (Ok a) h = tt
+  unheaded (Err e) h = no_heading h
 
-    pub status_unlisted : whole ≡ false → StatusFor s heading 3
-    status_unlisted e = no_listing headed (subst (Lists s) e l)
+  pub unlisted : (r : Result A Error) → Sends heading true → Lists s (is_ok r) → OnErr r (StatusFor s heading 3)
+  unlisted (Ok a) h l = tt
+  unlisted (Err e) h l = no_listing h l
 
-pub status_listed :
-    {s heading : List ℕ} {sent whole : Bool} (o : Outcome) (r : ℕ) → Sends heading sent → sent ≡ true → Lists s whole → whole ≡ true
-    → r ≡ status_of o → o ≡ outcome_of s → StatusFor s heading r
-status_listed {s} {heading} {sent} {whole} o r h g l k e is =
-    let n : r ≡ status_of (outcome_of s) = e ∙ ap status_of is in
-    subst (StatusFor s heading) (sym n) (listed (subst (Sends heading) g h) (subst (Lists s) k l))
+pub status_listed : {s heading : List ℕ} (o : Outcome) (r : ℕ) → Sends heading true → Lists s true → r ≡ status_of o → o ≡ outcome_of s → StatusFor s heading r
+status_listed {s} {heading} o r h l e is = rw (e, is) (listed h l)

@@ -5,13 +5,15 @@
 //
 // DESCRIPTOR is a digit from 3 on: the status is written there in the end, and the program itself ends with 0. LABEL comes
 // before the error of a read, HEADING before the listing.
-ghost use Rattle.std.specs.Prelude.{◌≤◌, length};
+ghost use Rattle.std.specs.Prelude.{◌≤◌, true, length, is_ok, OnOk, OnErr};
 ghost use Rattle.sheet_lines.specs.Lines.{piece_bytes};
+ghost use Rattle.sheet_calls.specs.Calls.{Sends};
 ghost use Rattle.sheet_program.specs.Program.{Lists, StatusFor, EveryListing};
 
+use sheet_calls::Error;
 use std::env::Env;
 use std::fs::OpenOptions;
-use std::io::{Error, Print, Write};
+use std::io::{Print, Write};
 use std::rt::Files;
 use std::str;
 use std::time::Clock;
@@ -25,85 +27,86 @@ const NOT_READ: u8 = 4;
 const LABEL_BYTES: usize = 8192;
 
 // Writes the listing of a sheet, by way of a buffer that has room for a piece. What cannot be written ends it at once, so that what was
-// written is the listing's beginning. `last` is the error of the last call that failed.
+// written is the listing's beginning.
 fn list<W: Write, C: Clock>(
     output: &mut W,
     clock: &C,
-    last: &mut Option<Error>,
     s: &[u8],
     out: &mut [u8],
-) -> bool
+) -> Result<(), Error>
     requires { piece_bytes ≤ length out.old }
-    ensures { Lists s.now result }
+    ensures { Lists s.now (is_ok result) }
 {
     let mut st = sheet_listing::start(s);
     loop {
         let filled = sheet_listing::fill(st, s, out);
         let n = filled.count;
-        let next = filled.listing;
-        if !sheet_calls::send(output, clock, last, &out[..n]) {
-            return false;
-        }
+        sheet_calls::send(output, clock, &out[..n])?;
         if n == 0 {
-            return true;
+            return Ok(());
         }
-        st = next;
+        st = filled.listing;
     }
 }
 
-// Writes the heading and the listing, and answers the status.
-fn list_sheet<W: Write, C: Clock>(
+// Writes the heading and the listing.
+fn write_listing<W: Write, C: Clock>(
     output: &mut W,
     clock: &C,
-    last: &mut Option<Error>,
+    s: &[u8],
+    heading: &[u8],
+) -> Result<(), Error>
+    ensures whole { OnOk result (Sends heading.now true × Lists s.now true) }
+    ensures status { OnErr result (StatusFor s.now heading.now 3) }
+{
+    sheet_calls::send(output, clock, heading)?;
+    let mut out = [0u8; 65536];
+    list(output, clock, s, &mut out)
+}
+
+// Writes the heading and the listing, says what could not be written whole, and answers the status.
+fn list_sheet<W: Write, P: Print, C: Clock>(
+    output: &mut W,
+    errors: &P,
+    clock: &C,
     s: &[u8],
     heading: &[u8],
 ) -> u8
     ensures { StatusFor s.now heading.now result }
 {
-    if !sheet_calls::send(output, clock, last, heading) {
-        return NOT_WRITTEN;
+    match write_listing(output, clock, s, heading) {
+        Ok(()) => sheet_outcome::find_outcome(s).into(),
+        Err(error) => {
+            sheet_calls::say_failure(errors, &error, b"plan: the listing is not written whole");
+            NOT_WRITTEN
+        }
     }
-    let mut out = [0u8; 65536];
-    if !list(output, clock, last, s, &mut out) {
-        return NOT_WRITTEN;
-    }
-    sheet_outcome::status_of(sheet_outcome::find_outcome(s))
 }
 
-fn say_unread<P: Print>(to: &P, last: &Option<Error>, label: &[u8]) {
-    if label.len() == 0 {
-        sheet_calls::say_failure(to, last, b"plan: standard input");
-        return;
-    }
-    sheet_calls::say_failure(to, last, label);
+fn say_unread<P: Print>(to: &P, error: &Error, label: &[u8]) {
+    let what = if label.is_empty() {
+        b"plan: standard input"
+    } else {
+        label
+    };
+    sheet_calls::say_failure(to, error, what);
 }
 
 // How long argument i is, which is put into the room; 0 for one that is not there, or longer.
 fn argument<E: Env>(env: &E, i: usize, room: &mut [u8]) -> usize
     ensures { result ≤ length room.new }
 {
-    match env.arg(i, room) {
-        Ok(n) => n,
-        Err(_) => 0,
-    }
+    env.arg(i, room).unwrap_or(0)
 }
 
 // The digit of the descriptor for the status.
 fn status_descriptor<E: Env>(env: &E) -> Option<u8> {
     let mut word = [0u8; 8];
     let n = argument(env, 1, &mut word);
-    let digit = word[0];
-    if n != 1 {
-        return None;
+    match &word[..n] {
+        [digit @ b'3'..=b'9'] => Some(*digit),
+        _ => None,
     }
-    if digit < b'3' {
-        return None;
-    }
-    if digit > b'9' {
-        return None;
-    }
-    Some(digit)
 }
 
 // Writes the status to a descriptor, which std reaches by its name alone. Opened for reading too, a pipe that nobody reads from is not waited
@@ -134,28 +137,21 @@ fn main(rt: HostRuntime) {
     let labelled = argument(&rt, 2, &mut label);
     let headed = argument(&rt, 3, &mut heading);
     let descriptor = status_descriptor(&rt);
-    let mut last: Option<Error> = None;
-    let received = sheet_calls::receive(&mut rt.stdin(), &rt, &mut last, &mut sheet);
-    if received.failed {
-        say_unread(&rt.stderr(), &last, &label[..labelled]);
-        report(&rt, descriptor, NOT_READ);
-        return;
-    }
+    let received = sheet_calls::receive(&mut rt.stdin(), &rt, &mut sheet);
     let n = received.count;
-    let status = list_sheet(
-        &mut rt.stdout(),
-        &rt,
-        &mut last,
-        &sheet[..n],
-        &heading[..headed],
-    );
-    if status == NOT_WRITTEN {
-        sheet_calls::say_failure(
+    let status = match received.outcome {
+        Ok(()) => list_sheet(
+            &mut rt.stdout(),
             &rt.stderr(),
-            &last,
-            b"plan: the listing is not written whole",
-        );
-    }
+            &rt,
+            &sheet[..n],
+            &heading[..headed],
+        ),
+        Err(error) => {
+            say_unread(&rt.stderr(), &error, &label[..labelled]);
+            NOT_READ
+        }
+    };
     report(&rt, descriptor, status);
 }
 

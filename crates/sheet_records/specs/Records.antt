@@ -1,12 +1,8 @@
 -- Records and figures from a line's values. A value is a number below 2 ^ 64; one that a field of 32 bits holds is below 2 ^ 32.
-use Rattle.std.specs.Prelude.{ℕ, ◌+◌, ◌-◌, ◌%◌, ◌^◌, eqb, get_or}
-use Rattle.conditions.specs.Conditions.{pick}
+-- One that is absent is no number, and is read as 0 where a number is asked for.
+use Rattle.std.specs.Prelude.{option_map, ℕ, ◌+◌, ◌%◌, ◌^◌, None, unwrap_or, eqb, get_or, Option}
 use Rattle.measures.specs.declared.Extent3d.{Extent3d}
 use Rattle.measures.specs.declared.Origin3d.{Origin3d}
-use Rattle.measures.specs.declared.OptionU32.{OptionU32}
-use Rattle.measures.specs.declared.OptionU32.TheVariants as O
-use Rattle.measures.specs.declared.OptionU64.{OptionU64}
-use Rattle.measures.specs.declared.OptionU64.TheVariants as L
 use Rattle.measures.specs.Measure.{texels}
 use Rattle.formats.specs.Aspects.{aspect_of}
 use Rattle.records.specs.declared.Buffer.{Buffer}
@@ -17,18 +13,16 @@ use Rattle.records.specs.declared.TexelCopyBufferLayout.{TexelCopyBufferLayout}
 use Rattle.sheet_fields.specs.declared.Line.{Line}
 
 unfoldable pub value_of : Line → ℕ → ℕ
-value_of l i = get_or l.values i 0
+value_of l i = unwrap_or (get_or l.values i None) 0
 
 unfoldable pub word_of : Line → ℕ → ℕ
-word_of l i = get_or l.values i 0 % 2 ^ 32
+word_of l i = value_of l i % 2 ^ 32
 
--- `-` is read as the last number of 64 bits
-unfoldable pub word_or_absent : Line → ℕ → OptionU32
-word_or_absent l i = pick (eqb (value_of l i) (2 ^ 64 - 1)) O.Absent (O.Given (word_of l i))
+unfoldable pub word_or_absent : Line → ℕ → Option ℕ
+word_or_absent l i = option_map (λ value. value % 2 ^ 32) (get_or l.values i None)
 
--- a size of 64 bits may be that number, so the line says whether it is absent
-unfoldable pub size_of : Line → OptionU64
-size_of l = pick l.gone L.Absent (L.Given (value_of l 5))
+unfoldable pub size_of : Line → Option ℕ
+size_of l = get_or l.values 5 None
 
 unfoldable pub extent_of : Line → ℕ → Extent3d
 extent_of l i = record { width = texels (word_of l i); height = texels (word_of l (i + 1)); depth_or_array_layers = word_of l (i + 2) }

@@ -1,48 +1,52 @@
 #![tactic(auto)]
 // Records and figures from the values of a job sheet's line.
-ghost use Rattle.std.specs.Prelude.{◌≡◌, ◌<◌, ◌+◌};
+ghost use Rattle.std.specs.Prelude.{◌≡◌, ◌<◌, ◌+◌, None, get_or};
 ghost use Rattle.sheet_records.specs.Records.{value_of, word_of, word_or_absent, size_of, extent_of, origin_of, device_of, texture_of, buffer_of, view_of, layout_of};
 
 use flags::{BufferUsages, TextureUsages};
-use measures::{Extent3d, OptionU32, OptionU64, Origin3d, Texels};
+use measures::{Extent3d, Origin3d, Texels};
 use records::{Buffer, Device, TexelCopyBufferLayout, TexelCopyTextureInfo, Texture};
 use sheet_fields::Line;
 
+// What stands in a field, if anything does; past the last field nothing.
+fn value_at(l: Line, i: usize) -> Option<u64>
+    ensures { result ≡ get_or l.values i None }
+{
+    if i >= l.values.len() {
+        return None;
+    }
+    l.values[i]
+}
+
+// A field that is absent is no number: it is read as 0.
 #[tactic(auto, unfolding(crate::specs::Records::value_of))]
 pub fn value_of(l: Line, i: usize) -> u64
-    requires { i < 16 }
     ensures { result ≡ value_of l i }
 {
-    l.values[i]
+    value_at(l, i).unwrap_or(0)
 }
 
 // The fields read here hold 32 bits, so nothing is cut off.
 #[tactic(auto, unfolding(crate::specs::Records::word_of))]
 pub fn word_of(l: Line, i: usize) -> u32
-    requires { i < 16 }
     ensures { result ≡ word_of l i }
 {
-    (l.values[i] % 4294967296) as u32
+    (value_of(l, i) % 4294967296) as u32
 }
 
-fn word_or_absent(l: Line, i: usize) -> OptionU32
-    requires { i < 16 }
+#[tactic(auto, unfolding(crate::specs::Records::word_or_absent))]
+fn word_or_absent(l: Line, i: usize) -> Option<u32>
     ensures { result ≡ word_or_absent l i }
 {
-    if value_of(l, i) == u64::MAX {
-        return OptionU32::Absent;
-    }
-    OptionU32::Given(word_of(l, i))
+    value_at(l, i).map(|value| (value % 4294967296) as u32)
 }
 
 // The size of a copy between buffers, its line's last field.
-pub fn size_of(l: Line) -> OptionU64
+#[tactic(auto, unfolding(crate::specs::Records::size_of))]
+pub fn size_of(l: Line) -> Option<u64>
     ensures { result ≡ size_of l }
 {
-    if l.gone {
-        return OptionU64::Absent;
-    }
-    OptionU64::Given(value_of(l, 5))
+    value_at(l, 5)
 }
 
 #[tactic(auto, unfolding(crate::specs::Records::extent_of))]

@@ -1,7 +1,7 @@
 -- How a listing is compared part by part, and a list is replayed item by item.
 -- Assumes nothing.
-use mathlib.Core.Path.{◌≡◌, refl, sym, ap, subst, ◌∙◌}
-use mathlib.Core.Bool.{Bool, true, false, ◌&&◌, not}
+use mathlib.Core.Path.{◌≡◌, sym, ap, subst, ◌∙◌}
+use mathlib.Core.Bool.{Bool, true, false, ◌&&◌}
 use mathlib.Core.List.{List}
 use Prim.Native.Nat.{ℕ, ◌+◌, ◌-◌, ◌≤◌, ◌<◌}
 use native.Mathlib.Omega.{arith}
@@ -10,11 +10,13 @@ use lib.ListN.{length, take, drop, length-append, length-drop}
 use Rattle.conditions.specs.Conditions.{pick}
 use Rattle.slices.proofs.Puts.{put_take, put_length}
 use Rattle.sheet_listing.specs.Listing.{Fills, Ends, listing_of}
-use Rattle.sheet_replay.specs.declared.Head.{Head}
-use Rattle.sheet_replay.specs.declared.Head.TheVariants as H
-use Rattle.sheet_replay.specs.declared.Verdict.{Verdict}
-use Rattle.sheet_replay.specs.Replay.{starts, same, Compares, differs, end_line, head_of, Replays, ended, broken, replayed}
-use Rattle.sheet_replay.proofs.Bytes.{same_parts, starts_inside, same_none, drop_on, take_rest}
+use Rattle.std.proofs.lemmas.List.{drop-drop}
+use Rattle.std.specs.Prelude.{Option, Some, None, Result, Ok, Err}
+use Rattle.sheet_replay.specs.declared.Counts.{Counts}
+use Rattle.sheet_replay.specs.declared.IllItem.{IllItem}
+use Rattle.sheet_replay.specs.declared.Item.{Item}
+use Rattle.sheet_replay.specs.Replay.{starts, same, Compares, Differs, differs, end_line, head_of, Replays, ended, broken, replayed}
+use Rattle.sheet_replay.proofs.Bytes.{same_parts, starts_inside, same_none, take_rest}
 use Rattle.sheet_replay.proofs.Items.{head_inside}
 
 -- ---- one part
@@ -43,45 +45,36 @@ pub record Comparing (whole left recorded : List ℕ) (at : ℕ) : Type 0 where
 pub comparing_starts : (whole recorded : List ℕ) (left : List ℕ) → left ≡ whole → Comparing whole left recorded 0
 comparing_starts whole recorded left e = record { inside = omega arith; same_left = rw e }
 
-module _ {whole left recorded : List ℕ} {at : ℕ} (c : Comparing whole left recorded at)
-    {after : List ℕ} {count : ℕ} {agrees : Bool} (given : Compares left after (take (length recorded - at) (drop at recorded)) count agrees) where
-  p : Compares left after (drop at recorded) count agrees
-  p = subst (λ (t : List ℕ). Compares left after t count agrees) (take_rest recorded at) given
+module _ {whole left recorded : List ℕ} {at : ℕ} (c : Comparing whole left recorded at) where
+  module _ {after : List ℕ} {count : ℕ} {agrees : Bool} (given : Compares left after (take (length recorded - at) (drop at recorded)) count agrees) where
+    p : Compares left after (drop at recorded) count agrees
+    p = subst (λ (t : List ℕ). Compares left after t count agrees) (take_rest recorded at) given
 
-  parted : same whole recorded ≡ (agrees && same after (drop (at + count) recorded))
-  parted =
-      sym c.same_left
-      ∙ ap (λ (t : List ℕ). same t (drop at recorded)) p.left
-      ∙ same_parts p.text after (drop at recorded)
-      ∙ rw (← p.is, ← p.counted, drop_on recorded at count)
+    parted : same whole recorded ≡ (agrees && same after (drop (at + count) recorded))
+    parted =
+        sym c.same_left
+        ∙ ap (λ (t : List ℕ). same t (drop at recorded)) p.left
+        ∙ same_parts p.text after (drop at recorded)
+        ∙ rw (← p.is, ← p.counted, drop-drop count at recorded)
 
-  pub comparing_off : not agrees ≡ true → false ≡ same whole recorded
-  comparing_off n = sym (parted ∙ off agrees n)
-    where
-      off : (t : Bool) → not t ≡ true → (t && same after (drop (at + count) recorded)) ≡ false
-      off true n = let z : ◌≡◌ {A = ℕ} 0 1 = cc in absurd (omega arith)
-      off false n = refl
+  pub comparing_off : Differs left (take (length recorded - at) (drop at recorded)) → false ≡ same whole recorded
+  comparing_off d = sym (parted d.compared)
 
-  agreed : not agrees ≡ false → agrees ≡ true
-  agreed n = on agrees n
-    where
-      on : (t : Bool) → not t ≡ false → t ≡ true
-      on true n = refl
-      on false n = let z : ◌≡◌ {A = ℕ} 0 1 = cc in absurd (omega arith)
+  module _ {after : List ℕ} {count : ℕ} (given : Compares left after (take (length recorded - at) (drop at recorded)) count true) where
+    pub comparing_inside : at + count ≤ length recorded
+    comparing_inside =
+        let q = p given in
+        let k = starts_inside q.text (drop at recorded) (sym q.is) in
+        omega (arith, q.counted, length-drop at recorded, c.inside)
 
-  pub comparing_inside : not agrees ≡ false → at + count ≤ length recorded
-  comparing_inside n =
-      let k = starts_inside p.text (drop at recorded) (sym p.is ∙ agreed n) in
-      omega (arith, p.counted, length-drop at recorded, c.inside)
+    pub comparing_on : Comparing whole after recorded (at + count)
+    comparing_on = record { inside = comparing_inside; same_left = sym (parted given) }
 
-  pub comparing_on : not agrees ≡ false → Comparing whole after recorded (at + count)
-  comparing_on n = record { inside = comparing_inside n; same_left = sym (parted ∙ rw (agreed n)) }
+    pub comparing_ends : count ≡ 0 → eqb at (length recorded) ≡ same whole recorded
+    comparing_ends z = same_none recorded at c.inside ∙ ap (λ (t : List ℕ). same t (drop at recorded)) (sym (given.ends z)) ∙ c.same_left
 
-  pub comparing_ends : count ≡ 0 → eqb at (length recorded) ≡ same whole recorded
-  comparing_ends z = same_none recorded at c.inside ∙ ap (λ (t : List ℕ). same t (drop at recorded)) (sym (p.ends z)) ∙ c.same_left
-
-  pub comparing_less : (count ≡ 0 → ⊥) → length after < length left
-  comparing_less n = omega (arith, ap length p.left, length-append p.text after, p.counted)
+    pub comparing_less : (count ≡ 0 → ⊥) → length after < length left
+    comparing_less n = omega (arith, ap length given.left, length-append given.text after, given.counted)
 
 -- ---- item by item
 
@@ -98,28 +91,28 @@ pub record Replaying (s : List ℕ) (at items differ : ℕ) : Type 0 where
   pub inside : at ≤ length s
   pub few : items ≤ at
   pub fewer : differ ≤ items
-  pub rest : (v : Verdict) → Replays s at items differ v → Replays s 0 0 0 v
+  pub rest : (v : Result Counts IllItem) → Replays s at items differ v → Replays s 0 0 0 v
 
 pub replaying_starts : (s : List ℕ) → Replaying s 0 0 0
 replaying_starts s = record { inside = omega arith; few = omega arith; fewer = omega arith; rest = λ v r. r }
 
 module _ {s : List ℕ} {at items differ : ℕ} (r : Replaying s at items differ) (end : Bool) (is-end : end ≡ same end_line (drop at s)) where
-  pub replaying_ends : end ≡ true → Replays s 0 0 0 (record { ill = false; items = items; differ = differ }) × (items ≤ length s)
+  pub replaying_ends : end ≡ true → Replays s 0 0 0 (Ok (record { items = items; differ = differ })) × (items ≤ length s)
   replaying_ends e = (r.rest _ (ended (sym is-end ∙ e)), omega (arith, r.few, r.inside))
 
-  module _ (go : end ≡ false) (h : Head) (is : h ≡ head_of s at) where
-    pub replaying_breaks : h ≡ H.Ill → Replays s 0 0 0 (record { ill = true; items = items; differ = differ }) × (items ≤ length s)
+  module _ (go : end ≡ false) (h : Option Item) (is : h ≡ head_of s at) where
+    pub replaying_breaks : h ≡ None → Replays s 0 0 0 (Err (record { before = record { items = items; differ = differ } })) × (items ≤ length s)
     replaying_breaks e = (r.rest _ (broken (sym is-end ∙ go) (sym is ∙ e)), omega (arith, r.few, r.inside))
 
     pub replaying_on :
-        (first listing next d : ℕ) → h ≡ H.Item first listing next → d ≡ differs (take (listing - first) (drop first s)) (take (next - listing) (drop listing s))
-        → Replaying s next (items + 1) (differ + d)
-    replaying_on first listing next d e f =
-        let i = head_inside s at first listing next (sym is ∙ e) in
-        let one = differs_few (take (listing - first) (drop first s)) (take (next - listing) (drop listing s)) in
+        (i : Item) (d : ℕ) → h ≡ Some i → d ≡ differs (take (i.listing - i.sheet) (drop i.sheet s)) (take (i.next - i.listing) (drop i.listing s))
+        → Replaying s i.next (items + 1) (differ + d)
+    replaying_on i d e f =
+        let k = head_inside s at i (sym is ∙ e) in
+        let one = differs_few (take (i.listing - i.sheet) (drop i.sheet s)) (take (i.next - i.listing) (drop i.listing s)) in
         record {
-          inside = i.end;
-          few = omega (arith, r.few, i.behind, i.sheet, i.text);
+          inside = k.end;
+          few = omega (arith, r.few, k.behind, k.sheet, k.text);
           fewer = omega (arith, r.fewer, f, one);
-          rest = λ v q. r.rest v (replayed (sym is-end ∙ go) (sym is ∙ e) (subst (λ (n : ℕ). Replays s next (items + 1) (differ + n) v) f q));
+          rest = λ v q. r.rest v (replayed (sym is-end ∙ go) (sym is ∙ e) (subst (λ (n : ℕ). Replays s i.next (items + 1) (differ + n) v) f q));
         }

@@ -1,30 +1,29 @@
 -- A list of sheets with their listings, and what it means that it is replayed.
 -- Among bytes 10 is a newline and 32 a space.
-use Rattle.std.specs.Prelude.{◌≡◌, Bool, true, false, ◌&&◌, not, List, [], ◌∷◌, ◌++◌, ◌↔◌, ℕ, ◌+◌, ◌-◌, ◌^◌, eqb, ltb, length, take, drop}
+use Rattle.std.specs.Prelude.{◌≡◌, Bool, true, false, not, List, [], ◌∷◌, ◌++◌, ◌↔◌, ℕ, ◌+◌, ◌-◌, ◌^◌, Option, None, Some, option_and_then, unwrap_or, Result, Ok, Err, nat_eq, bytes_eq, ltb, length, take, drop}
 use Rattle.conditions.specs.Conditions.{pick, stop_if, ◌$◌}
-use Rattle.sheet_fields.specs.declared.Field.{Field}
-use Rattle.sheet_fields.specs.declared.Field.TheVariants as F
-use Rattle.sheet_fields.specs.Codes.{word}
+use Rattle.std.specs.List.{starts_with}
+use Rattle.sheet_fields.specs.declared.FieldKind.TheVariants.{Word}
 use Rattle.sheet_fields.specs.Field.{field_of}
 use Rattle.sheet_text.specs.Text.{decimal, line_text}
 use Rattle.sheet_listing.specs.Listing.{listing_of}
-use Rattle.sheet_replay.specs.declared.Head.{Head}
-use Rattle.sheet_replay.specs.declared.Head.TheVariants as H
-use Rattle.sheet_replay.specs.declared.Verdict.{Verdict}
+use Rattle.sheet_replay.specs.declared.Counts.{Counts}
+use Rattle.sheet_replay.specs.declared.IllItem.{IllItem}
+use Rattle.sheet_replay.specs.declared.Item.{Item}
+
+-- what is read goes on, and the first ill field ends it
+infixr 10 ◌>>=◌
+abbrev ◌>>=◌ : {A B : Type 0} → Option A → (A → Option B) → Option B
+o >>= f = option_and_then f o
 
 -- ---- bytes
 
 -- a text stands at the start of a list
 unfoldable pub starts : List ℕ → List ℕ → Bool
-starts [] l = true
-starts (x ∷ t) [] = false
-starts (x ∷ t) (y ∷ l) = eqb y x && starts t l
+starts text l = starts_with nat_eq l text
 
 unfoldable pub same : List ℕ → List ℕ → Bool
-same [] [] = true
-same [] (y ∷ l) = false
-same (x ∷ t) [] = false
-same (x ∷ t) (y ∷ l) = eqb y x && same t l
+same a b = bytes_eq a b
 
 -- that it is equality
 abbrev pub SameLaw : Type 0
@@ -44,6 +43,12 @@ pub record Compares (before after recorded : List ℕ) (count : ℕ) (agrees : B
   pub is : agrees ≡ starts text recorded
   pub ends : count ≡ 0 → before ≡ []
 
+-- some of what was left is not what the record goes on with
+pub record Differs (before recorded : List ℕ) : Type 0 where
+  pub after : List ℕ
+  pub count : ℕ
+  pub compared : Compares before after recorded count false
+
 -- ---- the list
 
 -- a list has fewer bytes
@@ -59,31 +64,30 @@ unfoldable pub end_line : List ℕ
 end_line = 101 ∷ 110 ∷ 100 ∷ 10 ∷ []
 
 -- an item whose head ends at a place, of n and m bytes, where so many bytes are there
-unfoldable pub item_of : ℕ → ℕ → ℕ → ℕ → Head
+unfoldable pub item_of : ℕ → ℕ → ℕ → ℕ → Option Item
 item_of bytes first n m =
-    stop_if (ltb (bytes - first) n) H.Ill $
-    stop_if (ltb (bytes - (first + n)) m) H.Ill $
-    H.Item first (first + n) (first + n + m)
-
-unfoldable pub after_number : Field → (ℕ → ℕ → Head) → Head
-after_number (F.At v gone next) rest = rest v next
-after_number F.Ill rest = H.Ill
+    stop_if (ltb (bytes - first) n) None $
+    stop_if (ltb (bytes - (first + n)) m) None $
+    Some (record { sheet = first; listing = first + n; next = first + n + m })
 
 -- the item at a place: `sheet N M`, N bytes, M bytes
-unfoldable pub head_of : List ℕ → ℕ → Head
+unfoldable pub head_of : List ℕ → ℕ → Option Item
 head_of s at =
-    stop_if (not (starts replay_word (drop at s))) H.Ill $
-    after_number (field_of s (at + 6) word 32) λ n next.
-    after_number (field_of s next word 10) λ m first.
-    item_of (length s) first n m
+    stop_if (not (starts replay_word (drop at s))) None $
+    (field_of s (at + 6) Word 32 >>= λ n. field_of s n.next Word 10 >>= λ m. item_of (length s) m.next (unwrap_or n.value 0) (unwrap_or m.value 0))
+
+-- the counts, of all items or of those before an ill one
+abbrev pub counts_of : Result Counts IllItem → Counts
+counts_of (Ok c) = c
+counts_of (Err e) = e.before
 
 -- from a place on, after so many items of which so many differ
-pub data Replays (s : List ℕ) : ℕ → ℕ → ℕ → Verdict → Type 0 where
-  ended : {at items differ : ℕ} → same end_line (drop at s) ≡ true → Replays s at items differ (record { ill = false; items = items; differ = differ })
-  broken : {at items differ : ℕ} → same end_line (drop at s) ≡ false → head_of s at ≡ H.Ill → Replays s at items differ (record { ill = true; items = items; differ = differ })
+pub data Replays (s : List ℕ) : ℕ → ℕ → ℕ → Result Counts IllItem → Type 0 where
+  ended : {at items differ : ℕ} → same end_line (drop at s) ≡ true → Replays s at items differ (Ok (record { items = items; differ = differ }))
+  broken : {at items differ : ℕ} → same end_line (drop at s) ≡ false → head_of s at ≡ None → Replays s at items differ (Err (record { before = record { items = items; differ = differ } }))
   replayed :
-      {at items differ first listing next : ℕ} {v : Verdict} → same end_line (drop at s) ≡ false → head_of s at ≡ H.Item first listing next
-      → Replays s next (items + 1) (differ + differs (take (listing - first) (drop first s)) (take (next - listing) (drop listing s))) v
+      {at items differ : ℕ} {i : Item} {v : Result Counts IllItem} → same end_line (drop at s) ≡ false → head_of s at ≡ Some i
+      → Replays s i.next (items + 1) (differ + differs (take (i.listing - i.sheet) (drop i.sheet s)) (take (i.next - i.listing) (drop i.listing s))) v
       → Replays s at items differ v
 
 -- ---- what is printed

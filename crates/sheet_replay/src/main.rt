@@ -1,14 +1,14 @@
 #![tactic(auto)]
 // Reads a list of sheets, each with its listing, on standard input, and lists each sheet again: prints the items whose listing
 // differs from the one on the list, and how many there are.
-ghost use Rattle.std.specs.Prelude.{◌≡◌, ◌++◌, ◌+◌, ◌≤◌, ◌<◌, length, drop};
+ghost use Rattle.std.specs.Prelude.{◌≡◌, true, MatchOption, ◌++◌, ◌+◌, ◌≤◌, ◌<◌, length, drop};
 ghost use Rattle.slices.specs.Put.{Put};
 ghost use Rattle.sheet_text.specs.Text.{decimal};
 ghost use Rattle.sheet_listing.specs.Listing.{rest_of, listing_of};
-ghost use Rattle.sheet_replay.specs.Replay.{starts, same, SameLaw, differs, Compares, item_of, head_of, list_bytes, replay_word, end_line, Replays, text_bytes, differs_text, counts_text, ill_text};
+ghost use Rattle.sheet_replay.specs.Replay.{starts, same, SameLaw, differs, Compares, Differs, counts_of, item_of, head_of, list_bytes, replay_word, end_line, Replays, text_bytes, differs_text, counts_text, ill_text};
 
-use sheet_fields::Field;
-use sheet_listing::Listing;
+use sheet_fields::FieldKind;
+use sheet_listing::{Filled, Listing};
 use std::io::{Print, Read};
 
 // Room for the list and a byte more, which tells that there is more.
@@ -17,45 +17,25 @@ const SPACE: usize = 262144;
 // Room for any line that is printed.
 const TEXT_BYTES: usize = 64;
 
-// Whether some bytes of a listing stand on the record, how many they are, and the state after them.
-#[derive(Clone, Copy)]
-pub struct Compared {
-    pub agrees: bool,
-    pub count: usize,
-    pub listing: Listing,
-}
-
 // Where an item's sheet begins, where its listing does, and the place after it.
 #[derive(Clone, Copy)]
-pub enum Head {
-    Item(usize, usize, usize),
-    Ill,
+pub struct Item {
+    pub sheet: usize,
+    pub listing: usize,
+    pub next: usize,
 }
 
-// How many items were read and how many differ; whether an ill one follows.
+// How many items were read, and how many differ.
 #[derive(Clone, Copy)]
-pub struct Verdict {
-    pub ill: bool,
+pub struct Counts {
     pub items: u64,
     pub differ: u64,
 }
 
-fn starts_with(l: &[u8], text: &[u8]) -> bool
-    ensures { result ≡ starts text.now l.now }
-{
-    let mut i: usize = 0;
-    while i < text.len() {
-        if i >= l.len() {
-            return false;
-        }
-        let a = l[i];
-        let b = text[i];
-        if a != b {
-            return false;
-        }
-        i += 1;
-    }
-    true
+// An ill item, with the counts of those before it.
+#[derive(Clone, Copy)]
+pub struct IllItem {
+    pub before: Counts,
 }
 
 // That `same` is equality: nothing runs here.
@@ -64,39 +44,34 @@ pub fn same_law()
     ensures { SameLaw }
 {}
 
-// As much of the listing as a buffer holds, beside what is left of the record.
-fn compare_some(st: Listing, s: &[u8], recorded: &[u8]) -> Compared
-    ensures { Compares (rest_of s.now st) (rest_of s.now result.listing) recorded.now result.count result.agrees }
+// As much of the listing as a buffer holds, beside what is left of the record: none where they differ.
+fn compare_some(st: Listing, s: &[u8], recorded: &[u8]) -> Option<Filled>
+    ensures { MatchOption result (Differs (rest_of s.now st) recorded.now) (λ f. Compares (rest_of s.now st) (rest_of s.now f.listing) recorded.now f.count true) }
 {
     let mut out = [0u8; 65536];
     let filled = sheet_listing::fill(st, s, &mut out);
-    let count = filled.count;
-    let listing = filled.listing;
-    let agrees = starts_with(recorded, &out[..count]);
-    Compared {
-        agrees,
-        count,
-        listing,
+    if !recorded.starts_with(&out[..filled.count]) {
+        return None;
     }
+    Some(filled)
 }
 
 // Whether the sheet's listing is the recorded one, byte by byte.
+#[tactic(auto, using(crate::proofs::Lists::comparing_off, crate::proofs::Lists::comparing_inside, crate::proofs::Lists::comparing_on, crate::proofs::Lists::comparing_ends, crate::proofs::Lists::comparing_less))]
 fn lists_as(s: &[u8], recorded: &[u8]) -> bool
     ensures { result ≡ same (listing_of s.now) recorded.now }
 {
     let mut st = sheet_listing::start(s);
     let mut at: usize = 0;
     loop {
-        let part = compare_some(st, s, &recorded[at..]);
-        if !part.agrees {
+        let Some(part) = compare_some(st, s, &recorded[at..]) else {
             return false;
-        }
+        };
         if part.count == 0 {
             return at == recorded.len();
         }
-        let next = part.listing;
         at += part.count;
-        st = next;
+        st = part.listing;
     }
 }
 
@@ -125,6 +100,7 @@ fn put_counts(out: &mut [u8], items: u64, differ: u64) -> usize
     put_counted(out, next, differ, b" differ\n")
 }
 
+#[tactic(auto, unfolding(crate::specs::Replay::ill_text))]
 fn put_ill(out: &mut [u8], k: u64) -> usize
     requires { text_bytes ≤ length out.old }
     ensures { Put out.old out.new 0 (ill_text k) result }
@@ -165,44 +141,46 @@ fn check_item<P: Print>(to: &P, s: &[u8], recorded: &[u8], k: u64) -> u64
 
 // An item whose head ends at `first`, of n and m bytes, where so many bytes are there.
 #[tactic(auto, unfolding(crate::specs::Replay::item_of, conditions::specs::Conditions::stop_if))]
-fn fit_item(length: usize, first: usize, n: usize, m: usize) -> Head
+fn fit_item(length: usize, first: usize, n: usize, m: usize) -> Option<Item>
     requires { first ≤ length }
     ensures { result ≡ item_of length first n m }
 {
     if n > length - first {
-        return Head::Ill;
+        return None;
     }
     let listing = first + n;
     if m > length - listing {
-        return Head::Ill;
+        return None;
     }
-    Head::Item(first, listing, listing + m)
+    Some(Item {
+        sheet: first,
+        listing,
+        next: listing + m,
+    })
 }
 
+#[tactic(auto, using(crate::proofs::Bytes::starts_rest), unfolding(crate::specs::Replay::starts, crate::specs::Replay::replay_word))]
 fn is_head(s: &[u8], at: usize) -> bool
     requires { at ≤ length s.now }
     ensures { result ≡ starts replay_word (drop at s.now) }
 {
-    starts_with(&s[at..], b"sheet ")
+    s[at..].starts_with(b"sheet ")
 }
 
-fn read_head(s: &[u8], at: usize) -> Head
+#[tactic(auto, unfolding(crate::specs::Replay::head_of, conditions::specs::Conditions::stop_if))]
+fn read_head(s: &[u8], at: usize) -> Option<Item>
     requires at_in_bounds { at ≤ length s.now }
     requires s_len_bound { length s.now < list_bytes }
     ensures { result ≡ head_of s.now at }
 {
     if !is_head(s, at) {
-        return Head::Ill;
+        return None;
     }
-    let f = sheet_fields::read_field(s, at + 6, sheet_fields::WORD, b' ');
-    let Field::At(n, _, next) = f else {
-        return Head::Ill;
-    };
-    let g = sheet_fields::read_field(s, next, sheet_fields::WORD, b'\n');
-    let Field::At(m, _, first) = g else {
-        return Head::Ill;
-    };
-    fit_item(s.len(), first, n as usize, m as usize)
+    let n = sheet_fields::read_field(s, at + 6, FieldKind::Word, b' ')?;
+    let m = sheet_fields::read_field(s, n.next, FieldKind::Word, b'\n')?;
+    let bytes = n.value.unwrap_or(0);
+    let listed = m.value.unwrap_or(0);
+    fit_item(s.len(), m.next, bytes as usize, listed as usize)
 }
 
 // The last line, after which nothing stands.
@@ -210,49 +188,44 @@ fn is_end(s: &[u8], at: usize) -> bool
     requires { at ≤ length s.now }
     ensures { result ≡ same end_line (drop at s.now) }
 {
-    if s.len() - at != 4 {
-        return false;
-    }
-    starts_with(&s[at..], b"end\n")
+    b"end\n".as_slice() == &s[at..]
 }
 
-fn replay<P: Print>(to: &P, s: &[u8]) -> Verdict
+fn replay<P: Print>(to: &P, s: &[u8]) -> Result<Counts, IllItem>
     requires { length s.now < list_bytes }
     ensures replays { Replays s.now 0 0 0 result }
-    ensures result_in_bounds { result.items ≤ length s.now }
+    ensures result_in_bounds { (counts_of result).items ≤ length s.now }
 {
     let mut at: usize = 0;
-    let mut items: u64 = 0;
-    let mut differ: u64 = 0;
+    let mut counts = Counts {
+        items: 0,
+        differ: 0,
+    };
     loop {
         if is_end(s, at) {
-            return Verdict {
-                ill: false,
-                items,
-                differ,
-            };
+            return Ok(counts);
         }
-        let head = read_head(s, at);
-        let Head::Item(first, listing, next) = head else {
-            return Verdict {
-                ill: true,
-                items,
-                differ,
-            };
+        let Some(item) = read_head(s, at) else {
+            return Err(IllItem { before: counts });
         };
-        items += 1;
-        differ += check_item(to, &s[first..listing], &s[listing..next], items);
-        at = next;
+        counts.items += 1;
+        counts.differ += check_item(
+            to,
+            &s[item.sheet..item.listing],
+            &s[item.listing..item.next],
+            counts.items,
+        );
+        at = item.next;
     }
 }
 
-fn print_verdict<P: Print>(to: &P, v: Verdict)
-    requires { v.items < list_bytes }
+fn print_verdict<P: Print>(to: &P, verdict: Result<Counts, IllItem>)
+    requires { (counts_of verdict).items < list_bytes }
 {
-    if v.ill {
-        return print_ill(to, v.items + 1);
+    match verdict {
+        Ok(counts) => print_counts(to, counts.items, counts.differ),
+        Err(ill) => print_ill(to, ill.before.items + 1),
     }
-    print_counts(to, v.items, v.differ)
 }
 
 // A list that fills the space may go on.

@@ -1,4 +1,3 @@
 pub mod RowLaws
-pub mod SectionLaws
 pub mod SheetProofs
 pub mod PlaceLaws

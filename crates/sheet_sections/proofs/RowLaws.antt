@@ -1,54 +1,64 @@
 -- How loops go over the lines of a section, and what they leave.
 -- Assumes nothing.
-use mathlib.Core.Path.{◌≡◌, refl, sym, ap}
-use mathlib.Core.Bool.{Bool, true, false, not}
+use mathlib.Core.Path.{◌≡◌, refl, ap}
 use mathlib.Core.List.{List, [], ◌∷◌}
-use Prim.Native.Nat.{ℕ, zero, suc, ◌+◌, ◌-◌, ◌≤◌, ◌<◌}
+use mathlib.Core.Logic.{⊎_elim}
+use Prim.Native.Nat.{ℕ, zero, suc, ◌+◌, ◌-◌, ◌≤◌, ◌<◌, min}
 use native.Mathlib.Omega.{arith}
 use native.Mathlib.Numerals.{add-one}
-use lib.ListN.{length, get_or, set}
-use lib.Seq.{sets, set_out}
-use Rattle.conditions.specs.Conditions.{stop_if}
-use Rattle.conditions.proofs.Rules.{went_past}
+use lib.ListN.{length, get_or, set, get_or-append, drop}
+use lib.Seq.{sets, sets-eq, set_out}
+use Rattle.std.specs.Prelude.{Option, Some, None, Result, Ok, Err, IsSome, unwrap_or, ok_or}
+use Rattle.std.proofs.lemmas.Bool.{cases_lt}
 use Rattle.sheet_fields.specs.declared.Line.{Line}
-use Rattle.sheet_fields.proofs.LineLaws.{stored}
-use Rattle.sheet_sections.specs.declared.Rows.TheVariants as R
-use Rattle.sheet_sections.specs.Rows.{section_line, row_at, rows_of, places_of}
+use Rattle.sheet_fields.specs.Line.{no_line}
+use Rattle.sheet_sections.specs.declared.Section.{Section}
+use Rattle.sheet_sections.specs.declared.IllAt.{IllAt}
+use Rattle.sheet_sections.specs.Rows.{◌>>=◌, ill_at, row_of, section_line, row_at, rows_of, places_of}
+
+-- where all went well, each step did
+pub goes : {A B : Type 0} (m : Result A IllAt) (k : A → Result B IllAt) (b : B) (C : Type 0) → (m >>= k) ≡ Ok b → ((a : A) → m ≡ Ok a → k a ≡ Ok b → C) → C
+goes (Ok a) k b C e go = go a refl e
+goes (Err i) k b C e go = absurd cc
+
+ok_some : (o : Option Line) (i : IllAt) (l : Line) → ok_or o i ≡ Ok l → o ≡ Some l
+ok_some None i l e = absurd cc
+ok_some (Some x) i l e = cc
 
 -- stores past the end change nothing
 sets_out : (vs l : List ℕ) (i : ℕ) → length l ≤ i → l ≡ sets l i vs
 sets_out [] l i h = refl
 sets_out (v ∷ vs) l i h = rw (set_out l i v h) (sets_out vs l (suc i) (omega arith))
 
-bad_not_past : {at next : ℕ} → R.Bad at ≡ R.Past next → ⊥
-bad_not_past q = let z : ◌≡◌ {A = ℕ} 0 1 = cc in absurd (omega arith)
+-- what was stored from the start on
+stored : (vs l : List ℕ) (k : ℕ) → k < length vs → length vs ≤ length l → get_or (sets l 0 vs) k 0 ≡ get_or vs k 0
+stored vs l k h room = rw (sets-eq vs l 0 (omega arith)) (get_or-append vs (drop (0 + length vs) l) 0 k h)
 
-good : (b : Bool) → not b ≡ false → b ≡ true
-good true q = refl
-good false q = sym q
+module _ (s : List ℕ) (section : Section) where
+  line_there : (at : ℕ) (l : Line) → row_of s section at ≡ Some l → section_line s section at ≡ l
+  unfolding section_line
+  line_there at l e = ap (λ (o : Option Line). unwrap_or o no_line) e
 
-module _ (s : List ℕ) (section : ℕ) where
-  -- ---- counting down: of the lines that are left, the one here, then the others
+  -- ---- of the lines that are left, the one here, then the others
 
-  pub rows_on : (left at : ℕ) (l : Line) → 0 < left → l ≡ section_line s section at → not l.good ≡ false → rows_of s section (left - 1) l.next ≡ rows_of s section left at
-  unfolding rows_of stop_if
-  rows_on zero at l h e g = absurd (omega arith)
-  rows_on (suc m) at l h e g = let p : suc m - 1 ≡ m = omega arith in rw (p, ← e, g)
+  module _ (count i at : ℕ) (r : Option Line) (o : Result Line IllAt) (left : i < count) (read : r ≡ row_of s section at) (is : o ≡ ok_or r (ill_at at)) where
+    pub rows_on : (l : Line) → o ≡ Ok l → rows_of s section (count - (i + 1)) l.next ≡ rows_of s section (count - i) at
+    unfolding rows_of
+    rows_on l e = let p : count - i ≡ suc (count - (i + 1)) = omega arith in rw (p, ← read, ← is, e)
 
-  pub rows_off : (left at : ℕ) (l : Line) → 0 < left → l ≡ section_line s section at → not l.good ≡ true → R.Bad at ≡ rows_of s section left at
-  unfolding rows_of stop_if
-  rows_off zero at l h e g = absurd (omega arith)
-  rows_off (suc m) at l h e g = rw (← e, g)
+    pub rows_off : (d : IllAt) → o ≡ Err d → Err d ≡ rows_of s section (count - i) at
+    unfolding rows_of
+    rows_off d e = let p : count - i ≡ suc (count - (i + 1)) = omega arith in rw (p, ← read, ← is, e)
 
-  pub rows_all : (left at : ℕ) → left ≤ 0 → R.Past at ≡ rows_of s section left at
+  pub rows_all : (count i at : ℕ) → count ≤ i → Ok at ≡ rows_of s section (count - i) at
   unfolding rows_of
-  rows_all zero at h = refl
-  rows_all (suc m) at h = absurd (omega arith)
+  rows_all count i at h = let z : count - i ≡ 0 = omega arith in rw z
 
   -- ---- places, stored from an index on
 
-  pub places_start : (count at : ℕ) (ps : List ℕ) → sets ps 0 (places_of s section (count - 0) at) ≡ sets ps 0 (places_of s section count at)
-  places_start count at ps = let z : count - 0 ≡ count = omega arith in rw z
+  none_left : (count i at : ℕ) → count ≤ i → places_of s section (count - i) at ≡ []
+  unfolding places_of
+  none_left count i at h = let z : count - i ≡ 0 = omega arith in rw z
 
   pub places_on :
       (count i at : ℕ) (ps : List ℕ) (l : Line) → i < count → l ≡ section_line s section at
@@ -56,12 +66,9 @@ module _ (s : List ℕ) (section : ℕ) where
   unfolding places_of
   places_on count i at ps l h e = let p : count - i ≡ suc (count - (i + 1)) = omega arith in rw (p, ← e, add-one i)
 
-  pub places_done : (count i at : ℕ) (ps : List ℕ) → count ≤ i → ps ≡ sets ps i (places_of s section (count - i) at)
-  unfolding places_of
-  places_done count i at ps h = let z : count - i ≡ 0 = omega arith in rw z
-
-  pub places_full : (count i at : ℕ) (ps : List ℕ) → length ps ≤ i → ps ≡ sets ps i (places_of s section (count - i) at)
-  places_full count i at ps h = sets_out (places_of s section (count - i) at) ps i h
+  -- no line is left, or no room
+  pub places_done : (count i at : ℕ) (ps : List ℕ) → min count (length ps) ≤ i → ps ≡ sets ps i (places_of s section (count - i) at)
+  places_done count i at ps h = ⊎_elim (λ r. sets_out (places_of s section (count - i) at) ps i (omega arith)) (λ c. rw (none_left count i at c)) (cases_lt i count)
 
   -- ---- what was found
 
@@ -71,20 +78,24 @@ module _ (s : List ℕ) (section : ℕ) where
   places_length (suc n) at = ap suc (places_length n (section_line s section at).next)
 
   -- the line at the k-th place is line k
-  pub place_row : (n at k : ℕ) → k < n → section_line s section (get_or (places_of s section n at) k 0) ≡ row_at s section k at
+  pub place_row : (n at k : ℕ) → k < n → row_of s section (get_or (places_of s section n at) k 0) ≡ row_at s section k at
   unfolding places_of row_at
   place_row zero at k h = absurd (omega arith)
   place_row (suc n) at zero h = refl
   place_row (suc n) at (suc k) h = place_row n (section_line s section at).next k (omega arith)
 
-  pub placed_row : (n at k : ℕ) (ps : List ℕ) → k < n → n ≤ length ps → section_line s section (get_or (sets ps 0 (places_of s section n at)) k 0) ≡ row_at s section k at
+  pub placed_row : (n at k : ℕ) (ps : List ℕ) → k < n → n ≤ length ps → row_of s section (get_or (sets ps 0 (places_of s section n at)) k 0) ≡ row_at s section k at
   placed_row n at k ps h room =
       let all : length (places_of s section n at) ≡ n = places_length n at in
       rw (stored (places_of s section n at) ps k (omega arith) (omega arith)) (place_row n at k h)
 
-  -- where all lines were good, line k is
-  pub rows_good : (n at next k : ℕ) → rows_of s section n at ≡ R.Past next → k < n → (row_at s section k at).good ≡ true
+  -- where all lines were there, line k is
+  pub rows_good : (n at next k : ℕ) → rows_of s section n at ≡ Ok next → k < n → IsSome (row_at s section k at)
   unfolding rows_of row_at
   rows_good zero at next k e h = absurd (omega arith)
-  rows_good (suc n) at next zero e h = good (section_line s section at).good (went_past _ _ _ _ _ e bad_not_past).0
-  rows_good (suc n) at next (suc k) e h = rows_good n (section_line s section at).next next k (went_past _ _ _ _ _ e bad_not_past).1 (omega arith)
+  rows_good (suc n) at next zero e h =
+      goes (ok_or (row_of s section at) (ill_at at)) _ next _ e λ l q r.
+      rw (ok_some _ _ l q)
+  rows_good (suc n) at next (suc k) e h =
+      goes (ok_or (row_of s section at) (ill_at at)) _ next _ e λ l q r.
+      rw (line_there at l (ok_some _ _ l q)) (rows_good n l.next next k r (omega arith))

@@ -4,20 +4,20 @@
 ghost use Rattle.std.specs.Prelude.{◌≡◌, ◌≤◌, length};
 ghost use Rattle.std.proofs.lemmas.List.Edits.{sets};
 ghost use Rattle.sheet_fields.specs.Line.{line_of};
-ghost use Rattle.sheet_sections.specs.Rows.{kind_of, kind_at, linear_code, copy_codes, section_line, places_of, rows_of};
-ghost use Rattle.sheet_sections.specs.Sheet.{least_of, most_of, section_of_rows, section_of_count, section_of, IllAt, found_of, newline, newlines, sheet_of};
+ghost use Rattle.sheet_sections.specs.Rows.{kind_at, linear_kind, copy_kinds, row_of, section_line, places_of, rows_of};
+ghost use Rattle.sheet_sections.specs.Sheet.{least_of, most_of, section_of_count, section_of, found_of, newlines, sheet_of, line_number};
 ghost use Rattle.sheet_sections.specs.Laws.{SheetLaws};
 
-use sheet_fields::{Field, Line};
+use sheet_fields::{FieldKind, Line};
 
 // The sections in their order.
-pub const DEVICES: usize = 0;
-
-pub const TEXTURES: usize = 1;
-
-pub const BUFFERS: usize = 2;
-
-pub const COPIES: usize = 3;
+#[derive(Clone, Copy, PartialEq, Eq)]
+pub enum Section {
+    Devices,
+    Textures,
+    Buffers,
+    Copies,
+}
 
 // The most bytes of a sheet.
 const SHEET_BYTES: usize = 65536;
@@ -38,255 +38,189 @@ pub struct Parts {
     pub copies: Part,
 }
 
-// The place after lines, or that of the first ill one.
+// The place of an ill line.
 #[derive(Clone, Copy)]
-pub enum Rows {
-    Past(usize),
-    Bad(usize),
+pub struct IllAt(pub usize);
+
+// Why a sheet is ill: it has too many bytes, or this is the number of its first ill line.
+#[derive(Clone, Copy)]
+pub enum SheetError {
+    TooLong,
+    IllLine(usize),
 }
 
-#[derive(Clone, Copy)]
-pub enum Section {
-    Good(Part),
-    Bad(usize),
-}
-
-#[derive(Clone, Copy)]
-pub enum Found {
-    Good(Parts),
-    Bad(usize),
-}
-
-// A sheet's sections, or the number of its first ill line; 0 where it is too long.
-#[derive(Clone, Copy)]
-pub enum Sheet {
-    Good(Parts),
-    Ill(usize),
-}
-
-#[tactic(auto, unfolding(crate::specs::Rows::kind_of))]
-fn kind_of(f: Field) -> u64
-    ensures { result ≡ kind_of f }
-{
-    match f {
-        Field::At(kind, _, _) => kind,
-        Field::Ill => 0,
+impl SheetError {
+    // The number of the ill line; 0 where the sheet is too long, whatever its lines are.
+    #[tactic(auto, unfolding(crate::specs::Sheet::line_number))]
+    pub fn line(self) -> usize
+        ensures { result ≡ line_number self }
+    {
+        match self {
+            SheetError::TooLong => 0,
+            SheetError::IllLine(line) => line,
+        }
     }
 }
 
+// The kind that a copy's line begins with; 0 where none stands there.
 #[tactic(auto, unfolding(crate::specs::Rows::kind_at))]
 fn kind_at(s: &[u8], at: usize) -> u64
     ensures { result ≡ kind_at s.now at }
 {
-    kind_of(sheet_fields::read_field(s, at, sheet_fields::KIND, b' '))
+    let field = sheet_fields::read_field(s, at, FieldKind::CopyKind, b' ');
+    field.and_then(|f| f.value).unwrap_or(0)
 }
 
-fn linear_code(kind: u64) -> u8
-    ensures { result ≡ linear_code kind }
+#[tactic(auto, unfolding(crate::specs::Rows::linear_kind))]
+fn linear_kind(kind: u64) -> FieldKind
+    ensures { result ≡ linear_kind kind }
 {
     if kind == 5 {
-        return sheet_fields::LONG;
+        return FieldKind::Long;
     }
-    sheet_fields::WORD
+    FieldKind::Word
 }
 
 // A copy's line, of which the kind is read already and is read again as its first field.
-fn read_copy(s: &[u8], at: usize, kind: u64) -> Line
-    ensures { result ≡ line_of s.now (copy_codes kind) at }
+#[tactic(auto, unfolding(crate::specs::Rows::copy_kinds, crate::specs::Rows::buffer_copy_kinds, crate::specs::Rows::texture_copy_kinds, crate::specs::Rows::buffer_texture_kinds))]
+fn read_copy(s: &[u8], at: usize, kind: u64) -> Option<Line>
+    ensures { result ≡ line_of s.now (copy_kinds kind) at }
 {
-    let w = sheet_fields::WORD;
+    let k = FieldKind::CopyKind;
+    let w = FieldKind::Word;
+    let l = FieldKind::Long;
+    let a = FieldKind::Aspect;
     if kind == 1 {
-        let codes = [
-            sheet_fields::KIND,
-            w,
-            sheet_fields::LONG,
-            w,
-            sheet_fields::LONG,
-            sheet_fields::LONG_OR_DASH,
-        ];
-        return sheet_fields::read_line(s, at, &codes);
+        return sheet_fields::read_line(s, at, &[k, w, l, w, l, FieldKind::LongOrDash]);
     }
     if kind == 4 {
-        let a = sheet_fields::ASPECT;
-        let codes = [
-            sheet_fields::KIND,
-            w,
-            w,
-            w,
-            w,
-            w,
-            a,
-            w,
-            w,
-            w,
-            w,
-            w,
-            a,
-            w,
-            w,
-            w,
-        ];
-        return sheet_fields::read_line(s, at, &codes);
+        return sheet_fields::read_line(s, at, &[k, w, w, w, w, w, a, w, w, w, w, w, a, w, w, w]);
     }
-    let linear = linear_code(kind);
-    let d = sheet_fields::WORD_OR_DASH;
-    let codes = [
-        sheet_fields::KIND,
-        linear,
-        sheet_fields::LONG,
-        d,
-        d,
-        w,
-        w,
-        w,
-        w,
-        w,
-        sheet_fields::ASPECT,
-        w,
-        w,
-        w,
-    ];
-    sheet_fields::read_line(s, at, &codes)
+    let d = FieldKind::WordOrDash;
+    sheet_fields::read_line(
+        s,
+        at,
+        &[k, linear_kind(kind), l, d, d, w, w, w, w, w, a, w, w, w],
+    )
 }
 
-// The line of a section at a place.
-pub fn read_row(s: &[u8], section: usize, at: usize) -> Line
+// The line of a section at a place, if one is there.
+#[tactic(auto, unfolding(crate::specs::Rows::row_of, crate::specs::Rows::kinds_of, crate::specs::Rows::device_kinds, crate::specs::Rows::texture_kinds, crate::specs::Rows::buffer_kinds))]
+fn find_row(s: &[u8], section: Section, at: usize) -> Option<Line>
+    ensures { result ≡ row_of s.now section at }
+{
+    let w = FieldKind::Word;
+    match section {
+        Section::Devices => sheet_fields::read_line(s, at, &[FieldKind::Fact, FieldKind::Fact]),
+        Section::Textures => sheet_fields::read_line(s, at, &[w, w, w, w, w, w, w, w]),
+        Section::Buffers => sheet_fields::read_line(s, at, &[FieldKind::Long, w]),
+        Section::Copies => read_copy(s, at, kind_at(s, at)),
+    }
+}
+
+// The same where a line is known to be there, as in a good sheet; else a line without values.
+#[tactic(auto, unfolding(crate::specs::Rows::section_line))]
+pub fn read_row(s: &[u8], section: Section, at: usize) -> Line
     ensures { result ≡ section_line s.now section at }
 {
-    let w = sheet_fields::WORD;
-    if section == DEVICES {
-        let codes = [sheet_fields::FACT, sheet_fields::FACT];
-        return sheet_fields::read_line(s, at, &codes);
-    }
-    if section == TEXTURES {
-        let codes = [w, w, w, w, w, w, w, w];
-        return sheet_fields::read_line(s, at, &codes);
-    }
-    if section == BUFFERS {
-        let codes = [sheet_fields::LONG, w];
-        return sheet_fields::read_line(s, at, &codes);
-    }
-    read_copy(s, at, kind_at(s, at))
+    find_row(s, section, at).unwrap_or(sheet_fields::no_line())
 }
 
 // The most textures, and the most buffers, of a sheet.
 pub const MAX_RECORDS: usize = 64;
 
 // Where the lines of a section begin, as many as there is room for. What the slice has after them is kept.
-pub fn find_places(s: &[u8], section: usize, count: usize, first: usize, places: &mut [usize])
+#[tactic(auto, using(crate::proofs::RowLaws::places_done))]
+pub fn find_places(s: &[u8], section: Section, count: usize, first: usize, places: &mut [usize])
     ensures { places.new ≡ sets places.old 0 (places_of s.now section count first) }
 {
     let mut at = first;
-    let mut i: usize = 0;
-    while i < places.len() {
-        if i >= count {
-            return;
-        }
+    for i in 0..count.min(places.len()) {
         places[i] = at;
-        let line = read_row(s, section, at);
-        at = line.next;
-        i += 1;
+        at = read_row(s, section, at).next;
     }
 }
 
-fn read_rows(s: &[u8], section: usize, count: usize, first: usize) -> Rows
+// The place after so many lines.
+#[tactic(auto, using(crate::proofs::RowLaws::rows_on, crate::proofs::RowLaws::rows_off, crate::proofs::RowLaws::rows_all))]
+fn read_rows(s: &[u8], section: Section, count: usize, first: usize) -> Result<usize, IllAt>
     ensures { result ≡ rows_of s.now section count first }
 {
     let mut at = first;
-    let mut left = count;
-    while left > 0 {
-        let line = read_row(s, section, at);
-        if !line.good {
-            return Rows::Bad(at);
-        }
-        at = line.next;
-        left -= 1;
+    for _ in 0..count {
+        at = find_row(s, section, at).ok_or(IllAt(at))?.next;
     }
-    Rows::Past(at)
+    Ok(at)
 }
 
 #[tactic(auto, unfolding(crate::specs::Sheet::least_of))]
-fn least_of(section: usize) -> usize
+fn least_of(section: Section) -> usize
     ensures { result ≡ least_of section }
 {
-    if section == DEVICES { 1 } else { 0 }
+    match section {
+        Section::Devices => 1,
+        Section::Textures | Section::Buffers | Section::Copies => 0,
+    }
 }
 
 #[tactic(auto, unfolding(crate::specs::Sheet::most_of))]
-fn most_of(section: usize) -> usize
+fn most_of(section: Section) -> usize
     ensures { result ≡ most_of section }
 {
-    if section == DEVICES {
-        return 1;
-    }
-    if section == COPIES { 256 } else { 64 }
-}
-
-fn section_of_rows(count: usize, first: usize, rows: Rows) -> Section
-    ensures { result ≡ section_of_rows count first rows }
-{
-    match rows {
-        Rows::Past(next) => Section::Good(Part { count, first, next }),
-        Rows::Bad(at) => Section::Bad(at),
+    match section {
+        Section::Devices => 1,
+        Section::Textures | Section::Buffers => 64,
+        Section::Copies => 256,
     }
 }
 
 // A section whose count is read already, from a line at `at`.
-fn read_counted(s: &[u8], section: usize, at: usize, count: usize, first: usize) -> Section
+#[tactic(auto, unfolding(crate::specs::Sheet::section_of_count, conditions::specs::Conditions::stop_if))]
+fn read_counted(
+    s: &[u8],
+    section: Section,
+    at: usize,
+    count: usize,
+    first: usize,
+) -> Result<Part, IllAt>
     ensures { result ≡ section_of_count s.now section at count first }
 {
     if count < least_of(section) {
-        return Section::Bad(at);
+        return Err(IllAt(at));
     }
     if count > most_of(section) {
-        return Section::Bad(at);
+        return Err(IllAt(at));
     }
-    section_of_rows(count, first, read_rows(s, section, count, first))
+    let next = read_rows(s, section, count, first)?;
+    Ok(Part { count, first, next })
 }
 
-fn read_section(s: &[u8], section: usize, at: usize) -> Section
+#[tactic(auto, unfolding(crate::specs::Sheet::section_of))]
+fn read_section(s: &[u8], section: Section, at: usize) -> Result<Part, IllAt>
     ensures { result ≡ section_of s.now section at }
 {
-    let codes = [sheet_fields::COUNT];
-    let line = sheet_fields::read_line(s, at, &codes);
-    if !line.good {
-        return Section::Bad(at);
-    }
-    read_counted(s, section, at, line.values[0] as usize, line.next)
+    let line = sheet_fields::read_line(s, at, &[FieldKind::Count]).ok_or(IllAt(at))?;
+    read_counted(
+        s,
+        section,
+        at,
+        line.values[0].unwrap_or(0) as usize,
+        line.next,
+    )
 }
 
-fn bad_at(r: Section) -> usize
-    ensures { IllAt r result }
-{
-    match r {
-        Section::Good(_) => 0,
-        Section::Bad(at) => at,
-    }
-}
-
-fn find_parts(s: &[u8]) -> Found
+#[tactic(auto, unfolding(crate::specs::Sheet::found_of, conditions::specs::Conditions::stop_if))]
+fn find_parts(s: &[u8]) -> Result<Parts, IllAt>
     ensures { result ≡ found_of s.now }
 {
-    let r1 = read_section(s, DEVICES, 0);
-    let Section::Good(devices) = r1 else {
-        return Found::Bad(bad_at(r1));
-    };
-    let r2 = read_section(s, TEXTURES, devices.next);
-    let Section::Good(textures) = r2 else {
-        return Found::Bad(bad_at(r2));
-    };
-    let r3 = read_section(s, BUFFERS, textures.next);
-    let Section::Good(buffers) = r3 else {
-        return Found::Bad(bad_at(r3));
-    };
-    let r4 = read_section(s, COPIES, buffers.next);
-    let Section::Good(copies) = r4 else {
-        return Found::Bad(bad_at(r4));
-    };
+    let devices = read_section(s, Section::Devices, 0)?;
+    let textures = read_section(s, Section::Textures, devices.next)?;
+    let buffers = read_section(s, Section::Buffers, textures.next)?;
+    let copies = read_section(s, Section::Copies, buffers.next)?;
     if copies.next < s.len() {
-        return Found::Bad(copies.next);
+        return Err(IllAt(copies.next));
     }
-    Found::Good(Parts {
+    Ok(Parts {
         devices,
         textures,
         buffers,
@@ -294,44 +228,29 @@ fn find_parts(s: &[u8]) -> Found
     })
 }
 
-#[tactic(auto, unfolding(crate::specs::Sheet::newline))]
-fn newline_of(b: u8) -> usize
-    ensures value { result ≡ newline b }
-    ensures upper_bound { result ≤ 1 }
-{
-    if b == b'\n' { 1 } else { 0 }
-}
-
+#[tactic(auto, unfolding(crate::specs::Sheet::newlines))]
 fn count_newlines(s: &[u8], end: usize) -> usize
     ensures value { result ≡ newlines end s.now }
     ensures upper_bound { result ≤ length s.now }
 {
-    let mut n: usize = 0;
-    let mut i: usize = 0;
-    while i < s.len() {
-        if i >= end {
-            return n;
-        }
-        n += newline_of(s[i]);
-        i += 1;
-    }
-    n
+    s.iter().take(end).filter(|b| **b == b'\n').count()
 }
 
 // The whole sheet. Lines are counted only where one is ill, from the newlines before it.
-pub fn read_sheet(s: &[u8]) -> Sheet
+#[tactic(auto, unfolding(crate::specs::Sheet::sheet_of, crate::specs::Sheet::sheet_from, conditions::specs::Conditions::stop_if))]
+pub fn read_sheet(s: &[u8]) -> Result<Parts, SheetError>
     ensures { result ≡ sheet_of s.now }
 {
     if s.len() > SHEET_BYTES {
-        return Sheet::Ill(0);
+        return Err(SheetError::TooLong);
     }
-    let f = find_parts(s);
-    match f {
-        Found::Good(p) => Sheet::Good(p),
-        Found::Bad(at) => Sheet::Ill(1 + count_newlines(s, at)),
+    match find_parts(s) {
+        Ok(parts) => Ok(parts),
+        Err(ill) => Err(SheetError::IllLine(1 + count_newlines(s, ill.0))),
     }
 }
 
+#[tactic(auto, using(crate::proofs::SheetProofs::sheet_laws))]
 pub fn sheet_laws()
     ensures { SheetLaws }
 {}

@@ -12,6 +12,10 @@ use borrow.Author.Tests.{ltb-true, ltb-false, lt-ltb, le-ltb}
 use lib.Dec.{ltb}
 use lib.ListN.{length, set, drop, get_or, length-append, length-set, drop_of_length-le}
 use lib.Seq.{drop-cons}
+use borrow.Rule.Slice.PartMut.{put_mid}
+use Rattle.std.proofs.lemmas.List.Edits.{paste_all, sets-eq}
+use Rattle.std.proofs.lemmas.Slice.{put_mid-paste}
+use Rattle.std.proofs.lemmas.List.{append_assoc}
 use Rattle.conditions.specs.Conditions.{pick}
 use Rattle.slices.specs.Put.{Put}
 use Rattle.slices.proofs.Puts.{put_length, put_then, put_as, put_none, put_one}
@@ -73,6 +77,12 @@ module _ {l m : List ℕ} {at r : ℕ} (n : ℕ) (g : 10 ≤ n) (h : n < 2 ^ 64)
       let a : length (decimal (n / 10)) + 1 ≤ 20 = omega (arith, decimal_few n, ap length (decimal_long n g h), length-append (decimal (n / 10)) ((48 + n % 10) ∷ [])) in
       omega (arith, p.next, put_length p)
 
+-- ---- bytes that were copied over a part of the slice
+
+pub bytes_put : (l m w : List ℕ) (at n : ℕ) → m ≡ w → n ≡ length w → at + length w ≤ length l → Put l (put_mid at n l m) at w (at + length w)
+bytes_put l m w at n e k h =
+    record { next = refl; numbers = put_mid-paste at n l m w n e refl k ∙ paste_all l at w n k ∙ rw (k, sets-eq w l at h, append_assoc) }
+
 -- ---- a number, or a dash
 
 module _ (n : ℕ) (d r : Bool) (is : r ≡ is_absent d n) where
@@ -120,9 +130,6 @@ underway_on dash l₀ l m at next ns i r u h p =
       rest = λ m' r' q. u.rest m' r' (put_as (put_then (put_one l next 32) (put_then p q)) (sym (spaced_on dash ns i h)));
     }
 
-pub underway_start : (dash : Bool) (l : List ℕ) (at : ℕ) (ns : List ℕ) → at + 21 * length ns ≤ length l → Underway dash l l at at ns 0
-underway_start dash l at ns h = record { room = omega arith; same = refl; rest = λ m r q. q }
-
 pub underway_end : (dash : Bool) (l₀ l : List ℕ) (at next : ℕ) (ns : List ℕ) (i : ℕ) → Underway dash l₀ l at next ns i → length ns ≤ i → Put l₀ l at (spaced dash ns) next
 underway_end dash l₀ l at next ns i u h = u.rest l next (put_as (put_none l next) (sym (spaced_end dash ns i h)))
 
@@ -144,9 +151,6 @@ module _ {l m : List ℕ} {at a : ℕ} (w : List ℕ) (dash : Bool) (ns : List �
 
   pub line_room : {k : List ℕ} {b : ℕ} → Put m k a (spaced dash ns) b → b < length k
   line_room q = omega (arith, p.next, put_length p, q.next, put_length q, spaced_few dash ns)
-
-pub number_room : (dash : Bool) (l₀ l : List ℕ) (at next : ℕ) (ns : List ℕ) (i x : ℕ) → Underway dash l₀ l at next ns i → i < length ns → next + 1 + 20 ≤ length (set l next x)
-number_room dash l₀ l at next ns i x u h = rw length-set (omega (arith, u.room))
 
 pub line_few : (w : List ℕ) (dash : Bool) (ns : List ℕ) → length (line_text w dash ns) ≤ length w + (21 * length ns + 1)
 unfolding line_text

@@ -27,6 +27,7 @@ pub fn put_decimal(out: &mut [u8], at: usize, n: u64) -> usize
 }
 
 // `-` is printed for the largest number, and only where a number may be absent.
+#[tactic(auto, unfolding(crate::specs::Text::is_absent))]
 fn is_absent(dash: bool, n: u64) -> bool
     ensures { result ≡ is_absent dash n }
 {
@@ -44,16 +45,14 @@ fn put_number(out: &mut [u8], at: usize, dash: bool, n: u64) -> usize
     put_decimal(out, at, n)
 }
 
+#[tactic(auto, using(crate::proofs::Puts::bytes_put))]
 pub fn put_bytes(out: &mut [u8], at: usize, word: &[u8]) -> usize
     requires { at + length word.now ≤ length out.old }
     ensures { Put out.old out.new at word.now result }
 {
-    let mut i: usize = 0;
-    while i < word.len() {
-        out[at + i] = word[i];
-        i += 1;
-    }
-    at + word.len()
+    let next = at + word.len();
+    out[at..next].copy_from_slice(word);
+    next
 }
 
 // Numbers, each after a space.
@@ -62,16 +61,15 @@ pub fn put_numbers(out: &mut [u8], at: usize, dash: bool, ns: &[u64]) -> usize
     ensures { Put out.old out.new at (spaced dash ns.now) result }
 {
     let mut next = at;
-    let mut i: usize = 0;
-    while i < ns.len() {
+    for n in ns {
         out[next] = b' ';
-        next = put_number(out, next + 1, dash, ns[i]);
-        i += 1;
+        next = put_number(out, next + 1, dash, *n);
     }
     next
 }
 
 // A line: a word, its numbers, a newline.
+#[tactic(auto, using(crate::proofs::Puts::line_room))]
 pub fn put_line(out: &mut [u8], at: usize, word: &[u8], dash: bool, ns: &[u64]) -> usize
     requires { at + (length word.now + (21 * length ns.now + 1)) ≤ length out.old }
     ensures { Put out.old out.new at (line_text word.now dash ns.now) result }

@@ -1,12 +1,13 @@
 -- How numbers that are put one after another join, and how they are put one by one.
 -- Assumes nothing.
 use mathlib.Core.Path.{◌≡◌, refl, sym}
-use mathlib.Core.List.{List, [], ◌∷◌, ◌++◌}
+use mathlib.Core.List.{List, [], ◌∷◌, ◌++◌, append_assoc}
 use Prim.Native.Nat.{ℕ, suc, ◌+◌, ◌≤◌, ◌<◌}
 use native.Mathlib.Omega.{arith}
 use native.Mathlib.Numerals.{add-one}
 use lib.ListN.{length, set, take, drop, get_or, length-append, drop_of_length-le}
-use lib.Seq.{sets, length-sets, drop-cons, sets-eq, take_at, length-take-le}
+use borrow.Rule.Slice.PartMut.{put_mid}
+use lib.Seq.{sets, length-sets, drop-cons, drop-drop, sets-eq, take_at, length-take-le}
 use Rattle.slices.specs.Put.{Put}
 use Rattle.slices.specs.Laws.{PutLaws}
 
@@ -49,6 +50,10 @@ numbers_on l w at i h = let e : at + (i + 1) ≡ suc (at + i) = omega arith in r
 
 pub numbers_all : (l w : List ℕ) (at i : ℕ) → length w ≤ i → l ≡ sets l (at + i) (drop i w)
 numbers_all l w at i h = rw (drop_of_length-le w h)
+
+-- numbers that were copied into a part of a slice as long as they are
+pub put_copied : (l m ns : List ℕ) (at k : ℕ) → m ≡ ns → k ≡ length ns → at + length ns ≤ length l → Put l (put_mid at k l m) at ns (at + length ns)
+put_copied l m ns at k e n h = record { next = refl; numbers = rw (e, n, sets-eq ns l at h, ← drop-drop (length ns) at l, append_assoc) }
 
 pub put_laws : PutLaws
 put_laws =

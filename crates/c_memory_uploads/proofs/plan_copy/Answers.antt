@@ -1,13 +1,16 @@
 -- What the check does not find alone for `plan_copy`.
+use mathlib.Core.Path.{◌∙◌}
 use Rattle.refusals.specs.Order.{decided}
-use Rattle.refusals.proofs.Order.{ordered}
+use Rattle.c_records.proofs.Passing.{check_passes, check_hands}
 use Rattle.c_memory_uploads.specs.Answer.{answer}
 use Rattle.c_memory_uploads.proofs.plan_copy.Goals as goal
 
-pub returns-then-view-gt-LAST_ASPECT : goal.returns-then-view-gt-LAST_ASPECT
+pub returns-in_err-check_aspect : goal.returns-in_err-check_aspect
 unfolding answer decided
-returns-then-view-gt-LAST_ASPECT c = search ordered depth 10
+returns-in_err-check_aspect c = check_hands _ _ _ c.check_aspect.ensures c.in_err-check_aspect.was c.from_residual.ensures.1
 
 pub returns : goal.returns
 unfolding answer decided
-returns c = search ordered depth 10
+returns c =
+    check_passes _ _ _ c.check_aspect.ensures c.in_ok-check_aspect.was
+    (c.copy_memory_to_texture.ensures ∙ rw (c.device_with-device.ensures, c.layout_from-layout.ensures, c.texture_from-t.ensures, c.view_from-v.ensures, c.size_from-s.ensures))

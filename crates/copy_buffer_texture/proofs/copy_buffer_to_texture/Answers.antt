@@ -1,20 +1,13 @@
 -- What the check does not find alone for `copy_buffer_to_texture`.
-use borrow.Author.Rules.{rules}
-use Rattle.rule_answers.proofs.Rules.{buffer_passed}
-use Rattle.copy_buffer_texture.proofs.Rules.{planned}
-use Rattle.copy_buffer_texture.proofs.Staged.{by_upload_law}
-use Rattle.refusals.specs.declared.CopySide.TheVariants.{Source}
+use Rattle.refusals.proofs.Stages.{read_goes, read_hands}
 use Rattle.copy_buffer_texture.specs.Stages.{upload_staged}
+use Rattle.copy_buffer_texture.proofs.Staged.{by_upload_law}
 use Rattle.copy_buffer_texture.proofs.copy_buffer_to_texture.Goals as goal
 
-pub record_upload-requires : goal.record_upload-requires
+pub returns-in_err-b : goal.returns-in_err-b
 unfolding upload_staged
-record_upload-requires c = buffer_passed _ c.args.b Source c.check_buffer-buffer.ensures c.in-GoOn.is
-
-pub returns-in_default : goal.returns-in_default
-unfolding upload_staged
-returns-in_default c = by_upload_law _ _ _ _ _ _ _ (search planned depth 10)
+returns-in_err-b c = by_upload_law _ _ _ _ _ _ _ (read_hands _ _ c.check_buffer.ensures c.in_err-b.was c.from_residual.ensures.1)
 
 pub returns : goal.returns
 unfolding upload_staged
-returns c = by_upload_law _ _ _ _ _ _ _ (search planned depth 10)
+returns c = by_upload_law _ _ _ _ _ _ _ (read_goes _ _ c.check_buffer.ensures c.in_ok-b.was c.copy_source_to_texture.ensures)

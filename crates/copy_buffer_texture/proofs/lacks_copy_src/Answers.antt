@@ -1,7 +1,6 @@
 -- What the check does not find alone for `lacks_copy_src`.
 use mathlib.Core.Path.{sym, ap, ◌∙◌}
 use mathlib.Core.Bool.{not}
-use borrow.Author.Rules.{rules}
 use Rattle.copy_buffer_texture.specs.Plan.{lacks_copy_src}
 use Rattle.copy_buffer_texture.proofs.lacks_copy_src.Goals as goal
 

@@ -1,6 +1,5 @@
 -- What the check does not find alone for `source_ranges`.
 use mathlib.Core.Path.{sym, ap, ◌∙◌}
-use borrow.Author.Rules.{rules}
 use Rattle.copy_buffer_texture.specs.declared.UploadSource.{UploadSource}
 use Rattle.copy_buffer_texture.specs.Plan.{source_ranges}
 use Rattle.copy_buffer_texture.proofs.source_ranges.Goals as goal

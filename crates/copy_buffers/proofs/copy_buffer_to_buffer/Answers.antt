@@ -1,18 +1,26 @@
 -- What the check does not find alone for `copy_buffer_to_buffer`.
-use borrow.Author.Rules.{rules}
-use Rattle.copy_buffers.proofs.Rules.{planned}
+use Rattle.conditions.specs.Conditions.{◌$◌}
+use Rattle.refusals.proofs.Stages.{read_goes, read_hands}
 use Rattle.copy_buffers.specs.Stages.{buffer_copy_staged}
 use Rattle.copy_buffers.proofs.Staged.{by_copy_law}
 use Rattle.copy_buffers.proofs.copy_buffer_to_buffer.Goals as goal
 
-pub returns-in_default : goal.returns-in_default
+pub returns-in_err-src : goal.returns-in_err-src
 unfolding buffer_copy_staged
-returns-in_default c = by_copy_law _ _ _ _ _ _ _ _ _ (search planned depth 14)
+returns-in_err-src c =
+    by_copy_law _ _ _ _ _ _ _ _ _ $
+    read_hands _ _ c.check_buffer.ensures c.in_err-src.was c.from_residual.ensures.1
 
-pub returns-in_default-dst_checked : goal.returns-in_default-dst_checked
+pub returns-in_err-dst : goal.returns-in_err-dst
 unfolding buffer_copy_staged
-returns-in_default-dst_checked c = by_copy_law _ _ _ _ _ _ _ _ _ (search planned depth 14)
+returns-in_err-dst c =
+    by_copy_law _ _ _ _ _ _ _ _ _ $
+    read_goes _ _ c.check_buffer.ensures c.in_ok-src.was $
+    read_hands _ _ c.check_buffer-2.ensures c.in_err-dst.was c.from_residual-in_err-dst.ensures.1
 
 pub returns : goal.returns
 unfolding buffer_copy_staged
-returns c = by_copy_law _ _ _ _ _ _ _ _ _ (search planned depth 14)
+returns c =
+    by_copy_law _ _ _ _ _ _ _ _ _ $
+    read_goes _ _ c.check_buffer.ensures c.in_ok-src.was $
+    read_goes _ _ c.check_buffer-2.ensures c.in_ok-dst.was c.copy_usable.ensures

@@ -3,10 +3,10 @@ use mathlib.Core.Path.{sym, ap}
 use Rattle.copy_kinds.specs.Ranges.{buffer_slot}
 use Rattle.copy_kinds.proofs.buffer_slot.Goals as goal
 
-pub returns-in-Given : goal.returns-in-Given
+pub returns-in-Some : goal.returns-in-Some
 unfolding buffer_slot
-returns-in-Given c = sym (ap (buffer_slot _) c.in-Given.is)
+returns-in-Some c = sym (ap (buffer_slot _) c.in-Some.is)
 
-pub returns-in-Absent : goal.returns-in-Absent
+pub returns-in-None : goal.returns-in-None
 unfolding buffer_slot
-returns-in-Absent c = sym (ap (buffer_slot _) c.in-Absent.is)
+returns-in-None c = sym (ap (buffer_slot _) c.in-None.is)

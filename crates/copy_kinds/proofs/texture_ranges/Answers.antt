@@ -3,10 +3,10 @@ use mathlib.Core.Path.{sym, ap, ◌∙◌}
 use Rattle.copy_kinds.specs.Ranges.{texture_ranges}
 use Rattle.copy_kinds.proofs.texture_ranges.Goals as goal
 
-pub returns-in-Given : goal.returns-in-Given
+pub returns-in-Some : goal.returns-in-Some
 unfolding texture_ranges
-returns-in-Given c = c.two_textures.ensures ∙ sym (ap (texture_ranges _ _) c.in-Given.is)
+returns-in-Some c = c.two_textures.ensures ∙ sym (ap (texture_ranges _ _) c.in-Some.is)
 
-pub returns-in-Absent : goal.returns-in-Absent
+pub returns-in-None : goal.returns-in-None
 unfolding texture_ranges
-returns-in-Absent c = c.no_ranges.ensures ∙ sym (ap (texture_ranges _ _) c.in-Absent.is)
+returns-in-None c = c.no_ranges.ensures ∙ sym (ap (texture_ranges _ _) c.in-None.is)

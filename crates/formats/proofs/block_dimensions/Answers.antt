@@ -14,6 +14,17 @@ bounded : (r : BlockDimensions) (format : ℕ) → r ≡ block_dimensions format
 unfolding Bounded
 bounded r format e = let f = every_format format in rw e (f.width_some, f.width_few, f.height_some, f.height_few)
 
+pub new-requires : goal.new-requires
+unfolding block_dimensions
+new-requires c = rw c.format_row-row.ensures (every_format c.args.format).width_some
+
+pub new-requires-2 : goal.new-requires-2
+unfolding block_dimensions
+new-requires-2 c = rw c.format_row-row.ensures (every_format c.args.format).height_some
+
 pub returns : goal.returns
 unfolding block_dimensions Bounded
-returns c = let e = ap block_of c.format_row-row.ensures in record { value = e; sides = bounded _ _ e }
+returns c =
+    let row = ap block_of c.format_row-row.ensures in
+    let e : ◌≡◌ {A = BlockDimensions} (record { width = c.new.result; height = c.new-2.result }) (block_dimensions c.args.format) = rw (c.new.ensures, c.new-2.ensures) row in
+    record { value = e; sides = bounded _ _ e }

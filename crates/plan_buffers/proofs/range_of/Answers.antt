@@ -1,5 +1,4 @@
 -- What the check does not find alone for `range_of`.
-use borrow.Author.Rules.{rules}
 use Rattle.plan_buffers.proofs.range_of.Goals as goal
 
 pub returns : goal.returns

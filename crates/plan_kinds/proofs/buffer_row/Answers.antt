@@ -2,13 +2,12 @@
 use mathlib.Core.Path.{sym, ap, ◌∙◌}
 use Rattle.plan_rows.specs.Rows.{row_of}
 use Rattle.plan_kinds.specs.Regions.{buffer_numbers}
-use borrow.Author.Rules.{rules}
 use Rattle.plan_kinds.proofs.buffer_row.Goals as goal
 
-pub returns-in-Region : goal.returns-in-Region
+pub returns-in-Some : goal.returns-in-Some
 unfolding buffer_numbers
-returns-in-Region c = c.buffer_copy_row.ensures ∙ sym (ap row_of (ap buffer_numbers c.in-Region.is))
+returns-in-Some c = c.buffer_copy_row.ensures ∙ sym (ap row_of (ap buffer_numbers c.in-Some.is))
 
-pub returns-in-NoneLeft : goal.returns-in-NoneLeft
+pub returns-in-None : goal.returns-in-None
 unfolding buffer_numbers
-returns-in-NoneLeft c = c.no_row.ensures ∙ sym (ap row_of (ap buffer_numbers c.in-NoneLeft.is))
+returns-in-None c = c.no_row.ensures ∙ sym (ap row_of (ap buffer_numbers c.in-None.is))

@@ -1,5 +1,4 @@
 -- What the check does not find alone for `parts_of`.
-use borrow.Author.Rules.{rules}
 use Rattle.conditions.proofs.Rules.{flag_lines}
 use Rattle.plan_textures.specs.Plan.{parts_of}
 use Rattle.plan_textures.proofs.parts_of.Goals as goal

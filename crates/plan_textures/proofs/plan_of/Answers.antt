@@ -1,6 +1,5 @@
 -- What the check does not find alone for `plan_of`.
 use mathlib.Core.Path.{◌∙◌}
-use borrow.Author.Rules.{rules}
 use Rattle.plan_textures.proofs.Rules.{built, counts_alike}
 use Rattle.plan_textures.specs.Plan.{plan_of}
 use Rattle.plan_textures.proofs.plan_of.Goals as goal

@@ -1,14 +1,12 @@
 -- What the check does not find alone for `block_alignment`.
-use native.Mathlib.Omega.{arith}
-use native.Mathlib.Nat.{pos_of_ne-zero}
-use Rattle.rule_formats.proofs.Alignment.{alignment_of}
+use mathlib.Core.Path.{◌≡◌, ap, ◌∙◌}
+use Rattle.measures.specs.Measure.{or_else}
+use Rattle.formats.specs.Aspects.{block_copy_size}
+use Rattle.rule_formats.proofs.Alignment.{some as above}
 use Rattle.rule_formats.proofs.block_alignment.Goals as goal
-
-pub returns-then-bytes-eq0 : goal.returns-then-bytes-eq0
-returns-then-bytes-eq0 c =
-    record { value = (alignment_of c.args.format c.args.aspect _ c.block_copy_size-bytes.ensures).0 c.if-bytes-eq0.true; some = omega arith }
 
 pub returns : goal.returns
 returns c =
-    let some = c.if-bytes-eq0.false in
-    record { value = (alignment_of c.args.format c.args.aspect _ c.block_copy_size-bytes.ensures).1 some; some = pos_of_ne-zero some }
+    let a = c.args in
+    let value : c.or_else.result ≡ or_else (block_copy_size a.format a.aspect) 1 = c.or_else.ensures ∙ ap (λ o. or_else o 1) c.block_copy_size.ensures in
+    record { value = value; some = rw value (above a.format a.aspect) }

@@ -3,10 +3,10 @@ use mathlib.Core.Path.{sym, ap, ◌∙◌}
 use Rattle.sheet_listing.specs.Listing.{plan_answered}
 use Rattle.sheet_listing.proofs.plan_of.Goals as goal
 
-pub returns-in-Plan : goal.returns-in-Plan
+pub returns-in-Ok : goal.returns-in-Ok
 unfolding plan_answered
-returns-in-Plan c = sym (ap plan_answered c.in-Plan.is)
+returns-in-Ok c = sym (ap plan_answered c.in-Ok.is)
 
-pub returns-in-Refused : goal.returns-in-Refused
+pub returns-in-Err : goal.returns-in-Err
 unfolding plan_answered
-returns-in-Refused c = c.no_plan.ensures ∙ sym (ap plan_answered c.in-Refused.is)
+returns-in-Err c = c.no_plan.ensures ∙ sym (ap plan_answered c.in-Err.is)

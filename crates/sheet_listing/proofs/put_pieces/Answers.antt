@@ -1,5 +1,4 @@
 -- What the check does not find alone for `put_pieces`.
-use Prim.Native.Nat.{◌-◌}
 use mathlib.Core.Path.{◌∙◌}
 use Rattle.slices.proofs.Puts.{put_length}
 use Rattle.sheet_listing.proofs.Left.{filling_starts, filling_room, filling_on, filling_less, filling_stops, filling_ends}

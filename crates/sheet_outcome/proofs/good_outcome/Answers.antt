@@ -7,22 +7,22 @@ pub slice_bounds-textures-end : goal.slice_bounds-textures-end
 slice_bounds-textures-end c =
     inside _ _ _ _ _ c.find_places.ensures (textures_few _ _ c.requires)
 
-pub slice_bounds-any_refused-end : goal.slice_bounds-any_refused-end
-slice_bounds-any_refused-end c =
+pub slice_bounds-sheet-end : goal.slice_bounds-sheet-end
+slice_bounds-sheet-end c =
     counted _ _ _ _ _ c.find_places.ensures (textures_few _ _ c.requires)
 
 pub slice_bounds-buffers-end : goal.slice_bounds-buffers-end
 slice_bounds-buffers-end c =
     inside _ _ _ _ _ c.find_places-2.ensures (buffers_few _ _ c.requires)
 
-pub slice_bounds-any_refused-end-2 : goal.slice_bounds-any_refused-end-2
-slice_bounds-any_refused-end-2 c =
+pub slice_bounds-sheet-end-2 : goal.slice_bounds-sheet-end-2
+slice_bounds-sheet-end-2 c =
     counted _ _ _ _ _ c.find_places-2.ensures (buffers_few _ _ c.requires)
 
-pub returns-then-refused : goal.returns-then-refused
-returns-then-refused c =
-    one_refused _ _ _ _ _ _ c.requires c.find_places.ensures c.find_places-2.ensures c.device_at-device.ensures c.any_refused-refused.ensures c.if-refused.true
+pub returns-then-any_refused : goal.returns-then-any_refused
+returns-then-any_refused c =
+    one_refused _ _ _ _ _ _ c.requires c.find_places.ensures c.find_places-2.ensures c.device_at.ensures c.any_refused.ensures c.if-any_refused.true
 
 pub returns : goal.returns
 returns c =
-    none_refused _ _ _ _ _ _ c.requires c.find_places.ensures c.find_places-2.ensures c.device_at-device.ensures c.any_refused-refused.ensures c.if-refused.false
+    none_refused _ _ _ _ _ _ c.requires c.find_places.ensures c.find_places-2.ensures c.device_at.ensures c.any_refused.ensures c.if-any_refused.false

@@ -10,6 +10,3 @@ use Rattle.sheet_sections.proofs.find_places.Given as goal
 abbrev pub invariant-loop-i : goal.invariant-loop-i
 invariant-loop-i l =
     (sets l.places l.i (places_of l.s l.section (l.count - l.i) l.at) ≡ sets l.initial.places 0 (places_of l.s l.section l.count l.first)) × (length l.places ≡ length l.initial.places)
-
-abbrev pub decreases-loop-i : goal.decreases-loop-i
-decreases-loop-i l = length l.initial.places - l.i

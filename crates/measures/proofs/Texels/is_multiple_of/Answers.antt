@@ -6,8 +6,8 @@ use Rattle.measures.proofs.Texels.is_multiple_of.Goals as goal
 
 pub returns-then-size-eq1 : goal.returns-then-size-eq1
 unfolding multiple
-returns-then-size-eq1 c = rw (c.if-size-eq1.true, mod-one)
+returns-then-size-eq1 c = rw (← c.count-size.ensures.value, c.if-size-eq1.true, mod-one)
 
 pub returns : goal.returns
 unfolding multiple
-returns c = search rules
+returns c = rw (← c.count-size.ensures.value) (search rules)

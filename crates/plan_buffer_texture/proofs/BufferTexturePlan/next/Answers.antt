@@ -1,5 +1,5 @@
 -- What the check does not find alone for `next`.
-use Rattle.std.proofs.Common.{rules, eq-eqb, ne_eqb}
+use Rattle.std.proofs.Common.{eq-eqb, ne_eqb}
 use Rattle.plan_buffer_texture.specs.Asking.{next_of}
 use Rattle.conditions.specs.Conditions.{stop_if}
 use Rattle.plan_buffer_texture.proofs.BufferTexturePlan.next.Goals as goal

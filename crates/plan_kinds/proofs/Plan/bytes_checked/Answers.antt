@@ -1,7 +1,6 @@
 -- What the check does not find alone for `bytes_checked`.
 use mathlib.Core.Path.{sym, ap}
 use Rattle.plan_kinds.specs.Regions.{checked_bytes_of}
-use borrow.Author.Rules.{rules}
 use Rattle.plan_kinds.proofs.Plan.bytes_checked.Goals as goal
 
 pub returns-in-Buffers : goal.returns-in-Buffers

@@ -1,7 +1,6 @@
 -- What the check does not find alone for `next`.
 use mathlib.Core.Path.{sym, ap, ◌∙◌}
 use Rattle.plan_kinds.specs.Regions.{next_of}
-use borrow.Author.Rules.{rules}
 use Rattle.plan_kinds.proofs.Plan.next.Goals as goal
 
 pub returns-in-Buffers : goal.returns-in-Buffers

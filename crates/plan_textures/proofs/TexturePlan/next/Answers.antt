@@ -1,6 +1,5 @@
 -- What the check does not find alone for `next`.
 use borrow.Author.Tests.{eq-eqb, ne_eqb}
-use borrow.Author.Rules.{rules}
 use Rattle.plan_textures.specs.Asking.{next_of}
 use Rattle.conditions.specs.Conditions.{stop_if}
 use Rattle.plan_textures.proofs.TexturePlan.next.Goals as goal

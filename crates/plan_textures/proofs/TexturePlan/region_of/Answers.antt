@@ -1,5 +1,4 @@
 -- What the check does not find alone for `region_of`.
-use borrow.Author.Rules.{rules}
 use Rattle.plan_textures.specs.Asking.{region_of}
 use Rattle.plan_textures.proofs.TexturePlan.region_of.Goals as goal
 

@@ -1,0 +1,31 @@
+-- What the check does not find alone for `allowed`.
+use mathlib.Core.Path.{sym, ◌∙◌}
+use borrow.Author.Tests.{lt-leb}
+use Rattle.conditions.specs.Conditions.{◌$◌}
+use Rattle.conditions.proofs.Rules.{not_no, line_passes}
+use Rattle.refusals.proofs.Stages.{after_goes, after_hands}
+use Rattle.copy_buffer_texture.specs.Stages.{download_allowed}
+use Rattle.copy_buffer_texture.proofs.Download.allowed.Goals as goal
+
+pub returns-in_err-validate_texture_copy_src_format : goal.returns-in_err-validate_texture_copy_src_format
+unfolding download_allowed
+returns-in_err-validate_texture_copy_src_format c =
+    line_passes _ _ _ _ _ (not_no _ (sym c.contains.ensures ∙ c.if-not-contains.false)) $
+    line_passes _ _ _ _ _ (lt-leb _ _ c.if-self-t.false) $
+    after_hands _ c.validate_texture_copy_src_format.ensures c.in_err-validate_texture_copy_src_format.was c.from_residual.ensures.1
+
+pub returns-in_err-validate_texture_buffer_copy : goal.returns-in_err-validate_texture_buffer_copy
+unfolding download_allowed
+returns-in_err-validate_texture_buffer_copy c =
+    line_passes _ _ _ _ _ (not_no _ (sym c.contains.ensures ∙ c.if-not-contains.false)) $
+    line_passes _ _ _ _ _ (lt-leb _ _ c.if-self-t.false) $
+    after_goes _ c.validate_texture_copy_src_format.ensures c.in_ok-validate_texture_copy_src_format.was $
+    after_hands _ c.validate_texture_buffer_copy.ensures c.in_err-validate_texture_buffer_copy.was c.from_residual-in_err-validate_texture_buffer_copy.ensures.1
+
+pub returns : goal.returns
+unfolding download_allowed
+returns c =
+    line_passes _ _ _ _ _ (not_no _ (sym c.contains.ensures ∙ c.if-not-contains.false)) $
+    line_passes _ _ _ _ _ (lt-leb _ _ c.if-self-t.false) $
+    after_goes _ c.validate_texture_copy_src_format.ensures c.in_ok-validate_texture_copy_src_format.was $
+    after_goes _ c.validate_texture_buffer_copy.ensures c.in_ok-validate_texture_buffer_copy.was c.placed.ensures
