@@ -44,7 +44,7 @@ fn lacks_copy_src(source: UploadSource) -> bool
     ensures { result ≡ lacks_copy_src source }
 {
     match source {
-        UploadSource::Buffer(b) => { !b.usage.contains(BufferUsages::COPY_SRC) },
+        UploadSource::Buffer(b) => !b.usage.contains(BufferUsages::COPY_SRC),
         UploadSource::Memory(_) => false,
     }
 }

@@ -20,19 +20,19 @@ use Rattle.copy_kinds.specs.declared.Ranges.{Ranges}
 use Rattle.plan_kinds.specs.declared.Plan.{Plan}
 
 unfoldable pub of_buffers : ℕ → ℕ → Result BufferPlan TransferError → Result (Plan × Ranges) TransferError
-of_buffers src dst (Ok p) = Ok ((Buffers p), (buffer_ranges src dst p))
+of_buffers src dst (Ok p) = Ok (Buffers p, buffer_ranges src dst p)
 of_buffers src dst (Err e) = Err e
 
 unfoldable pub of_buffer_texture : ℕ → ℕ → Result BufferTexturePlan TransferError → Result (Plan × Ranges) TransferError
-of_buffer_texture texture buffer (Ok p) = Ok ((BufferTexture p), (copy_ranges texture buffer p.ranges))
+of_buffer_texture texture buffer (Ok p) = Ok (BufferTexture p, copy_ranges texture buffer p.ranges)
 of_buffer_texture texture buffer (Err e) = Err e
 
 unfoldable pub of_memory : ℕ → Result BufferTexturePlan TransferError → Result (Plan × Ranges) TransferError
-of_memory texture (Ok p) = Ok ((BufferTexture p), (memory_ranges texture p.ranges))
+of_memory texture (Ok p) = Ok (BufferTexture p, memory_ranges texture p.ranges)
 of_memory texture (Err e) = Err e
 
 unfoldable pub of_textures : ℕ → ℕ → Result TexturePlan TransferError → Result (Plan × Ranges) TransferError
-of_textures src dst (Ok p) = Ok ((Textures p), (texture_ranges src dst p.ranges))
+of_textures src dst (Ok p) = Ok (Textures p, texture_ranges src dst p.ranges)
 of_textures src dst (Err e) = Err e
 
 -- ---- by kind: i is the index of the source, j that of the destination

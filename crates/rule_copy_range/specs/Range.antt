@@ -103,4 +103,4 @@ range_checks view t side size =
 
 -- an accepted range gives the size of a region and the layers
 unfoldable pub range_checked : TexelCopyTextureInfo → Texture → CopySide → Extent3d → Result (CopyExtent × ℕ) TransferError
-range_checked view t side size = decided (range_checks view t side size) (Ok ((copy_extent t size), (layer_count_of t size)))
+range_checked view t side size = decided (range_checks view t side size) (Ok (copy_extent t size, layer_count_of t size))

@@ -71,7 +71,7 @@ selector_checks view t =
 
 unfoldable pub selector_checked : TexelCopyTextureInfo → Texture → Extent3d → Result (TextureSelector × TextureCopyBase) TransferError
 selector_checked view t size =
-    decided (selector_checks view t) (Ok ((selector_of view t size), (base_of view t (chosen_aspects t.format view.aspect))))
+    decided (selector_checks view t) (Ok (selector_of view t size, base_of view t (chosen_aspects t.format view.aspect)))
 
 -- chosen aspects meet, the level is the same, and each z is below the other z plus the layers
 unfoldable pub overlaps : TexelCopyTextureInfo → TexelCopyTextureInfo → ℕ → ℕ → Bool
