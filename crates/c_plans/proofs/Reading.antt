@@ -18,12 +18,13 @@ use Rattle.plan_buffers.specs.Asking as K
 use Rattle.plan_buffer_texture.specs.Asking as L
 use Rattle.plan_textures.specs.declared.CopyParts.{CopyParts}
 use Rattle.plan_textures.specs.declared.CopyParts.TheVariants.{Whole, DepthStencil, Planes}
+use Rattle.plan_textures.specs.Numbers.{parts_number, parts_from}
 use Rattle.plan_kinds.specs.declared.Plan.{Plan}
 use Rattle.plan_kinds.specs.declared.Plan.TheVariants.{Buffers, BufferTexture, Textures}
 use Rattle.plan_kinds.specs.Regions.{left_of, region_numbers, behind_of, regions_from, regions_left}
 use Rattle.plan_kinds.proofs.Ranges.{numbers_with, behind_with}
-use Rattle.c_words.specs.Words.{parts_number, buffer_words, buffer_texture_words, texture_words}
-use Rattle.c_plans.specs.PlanWords.{low, option_from, parts_from, base_from, extent_from, buffers_from, buffer_texture_from, textures_from}
+use Rattle.c_words.specs.Words.{buffer_words, buffer_texture_words, texture_words}
+use Rattle.c_plans.specs.PlanWords.{low, option_from, base_from, extent_from, buffers_from, buffer_texture_from, textures_from}
 use Rattle.c_plans.specs.Laws.{without_ranges, read_back, Narrow, given_numbers, narrow_numbers, EveryPlan}
 
 -- ---- reading back

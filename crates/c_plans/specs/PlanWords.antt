@@ -6,8 +6,7 @@ use Rattle.rule_copy_range.specs.declared.CopyExtent.{CopyExtent}
 use Rattle.rule_selectors.specs.declared.TextureCopyBase.{TextureCopyBase}
 use Rattle.plan_buffers.specs.declared.BufferPlan.{BufferPlan}
 use Rattle.plan_buffer_texture.specs.declared.BufferTexturePlan.{BufferTexturePlan}
-use Rattle.plan_textures.specs.declared.CopyParts.{CopyParts}
-use Rattle.plan_textures.specs.declared.CopyParts.TheVariants.{Whole, DepthStencil, Planes}
+use Rattle.plan_textures.specs.Numbers.{parts_from}
 use Rattle.plan_textures.specs.declared.TexturePlan.{TexturePlan}
 
 -- a number of 32 bits; a plan's word of one has no more
@@ -17,9 +16,6 @@ low word = word % 2 ^ 32
 -- the last number of 64 bits stands for an absent value
 unfoldable pub option_from : ℕ → Option ℕ
 option_from word = pick (eqb word (2 ^ 64 - 1)) None (Some (low word))
-
-unfoldable pub parts_from : ℕ → CopyParts
-parts_from word = pick (eqb word 0) Whole (pick (eqb word 1) DepthStencil Planes)
 
 -- level, layer, x, y, z, aspect bits
 unfoldable pub base_from : ℕ → ℕ → ℕ → ℕ → ℕ → ℕ → TextureCopyBase

@@ -2,7 +2,7 @@
 // Plans from the words that callers in other languages keep.
 ghost use Rattle.std.specs.Prelude.{◌≡◌};
 ghost use Rattle.c_plans.specs.Laws.{EveryPlan};
-ghost use Rattle.c_plans.specs.PlanWords.{low, option_from, parts_from, base_from, extent_from, buffers_from, buffer_texture_from, textures_from};
+ghost use Rattle.c_plans.specs.PlanWords.{low, option_from, base_from, extent_from, buffers_from, buffer_texture_from, textures_from};
 
 use flags::FormatAspects;
 use measures::{Origin3d, Texels};
@@ -11,9 +11,6 @@ use plan_buffers::{BufferCopy, BufferPlan};
 use plan_textures::{CopyParts, TexturePlan};
 use rule_copy_range::CopyExtent;
 use rule_selectors::TextureCopyBase;
-
-// What stands for an absent value.
-const ABSENT: u64 = u64::MAX;
 
 // Any word is taken: of a number of 32 bits, the bits above are left out.
 fn low_bits(word: u64) -> u32
@@ -26,21 +23,10 @@ fn low_bits(word: u64) -> u32
 fn option_from(word: u64) -> Option<u32>
     ensures { result ≡ option_from word }
 {
-    if word == ABSENT {
+    if word == plan_rows::ABSENT {
         return None;
     }
     Some(low_bits(word))
-}
-
-#[tactic(auto, unfolding(crate::specs::PlanWords::parts_from))]
-fn parts_from(word: u64) -> CopyParts
-    ensures { result ≡ parts_from word }
-{
-    match word {
-        0 => CopyParts::Whole,
-        1 => CopyParts::DepthStencil,
-        _ => CopyParts::Planes,
-    }
 }
 
 #[tactic(auto, unfolding(crate::specs::PlanWords::base_from))]
@@ -114,7 +100,7 @@ pub fn textures_from(w: [u64; 18]) -> TexturePlan
         src: base_from(w[3], w[4], w[5], w[6], w[7], w[8]),
         dst: base_from(w[9], w[10], w[11], w[12], w[13], w[14]),
         size: extent_from(w[15], w[16], w[17]),
-        parts: parts_from(w[1]),
+        parts: CopyParts::from(w[1]),
         part: low_bits(w[2]),
         left: low_bits(w[0]),
         ranges: None,

@@ -1,7 +1,6 @@
 #![tactic(auto)]
 // Records and figures from numbers, as callers in other languages hand them.
 ghost use Rattle.std.specs.Prelude.{◌≡◌, [], ◌∷◌};
-ghost use Rattle.formats.specs.Aspects.{aspect_of};
 ghost use Rattle.conditions.specs.Conditions.{pick};
 ghost use Rattle.refusals.specs.Order.{checked};
 ghost use Rattle.c_records.specs.CRecords.{given, buffer_from, layout_from, texture_from, view_from, size_from, device_with, aspect_check};
@@ -64,14 +63,8 @@ pub fn texture_from(t: &[u32; 8]) -> Texture
     }
 }
 
-fn aspect_from(number: u32) -> TextureAspect
-    ensures { result ≡ aspect_of number }
-{
-    formats::aspect_of(number as u64)
-}
-
-// Level, x, y, z, aspect.
-#[tactic(auto, unfolding(crate::specs::CRecords::view_from))]
+// Level, x, y, z, aspect. A number past the aspects, which is refused before, counts as the last.
+#[tactic(auto, using(formats::proofs::AspectLaws::or_last), unfolding(crate::specs::CRecords::view_from))]
 pub fn view_from(v: &[u32; 5]) -> TexelCopyTextureInfo
     ensures { result ≡ view_from v.now }
 {
@@ -80,7 +73,7 @@ pub fn view_from(v: &[u32; 5]) -> TexelCopyTextureInfo
         y: Texels(v[2]),
         z: v[3],
     };
-    let aspect = aspect_from(v[4]);
+    let aspect = TextureAspect::try_from(u64::from(v[4])).unwrap_or(TextureAspect::Plane2);
     TexelCopyTextureInfo {
         mip_level: v[0],
         origin,
@@ -118,11 +111,11 @@ pub fn device_with(depth_texture_and_buffer_copies: bool) -> Device
 }
 
 // A view's number past the aspects names none, of the texture.
-#[tactic(auto, using(refusals::proofs::Order::ordered), unfolding(refusals::specs::Order::decided))]
+#[tactic(auto, using(refusals::proofs::Order::ordered, formats::proofs::AspectLaws::past_last), unfolding(refusals::specs::Order::decided))]
 pub fn check_aspect(texture: &[u32; 8], view: &[u32; 5]) -> Result<(), TransferError>
     ensures { result ≡ checked (aspect_check texture.now view.now ∷ []) }
 {
-    if view[4] > formats::LAST_ASPECT {
+    if TextureAspect::try_from(u64::from(view[4])).is_err() {
         return Err(TransferError::InvalidTextureAspect {
             format: texture[0],
             aspect: TextureAspect::Plane2,

@@ -11,11 +11,12 @@ use Rattle.plan_buffer_texture.specs.Asking as L
 use Rattle.plan_textures.specs.declared.CopyParts.{CopyParts}
 use Rattle.plan_textures.specs.declared.CopyParts.TheVariants.{Whole, DepthStencil, Planes}
 use Rattle.plan_textures.specs.declared.TexturePlan.{TexturePlan}
+use Rattle.plan_textures.specs.Numbers.{parts_number}
 use Rattle.plan_textures.specs.Asking as X
 use Rattle.plan_kinds.specs.declared.Plan.{Plan}
 use Rattle.plan_kinds.specs.declared.Plan.TheVariants.{Buffers, BufferTexture, Textures}
 use Rattle.plan_kinds.specs.Regions.{left_of, buffer_numbers, buffer_texture_numbers, texture_numbers, region_numbers, behind_of}
-use Rattle.c_words.specs.Words.{parts_number, buffer_words, buffer_texture_words, texture_words}
+use Rattle.c_words.specs.Words.{buffer_words, buffer_texture_words, texture_words}
 use Rattle.c_regions.specs.Regions.{words_of, left_in, buffer_region, buffer_behind, buffer_texture_region, buffer_texture_behind, with_aspects, chroma_halved, depth_or_stencil, texture_region, part_follows, part_on, texture_behind}
 use Rattle.c_regions.specs.Laws.{region_from, words_behind, NextAgrees, EveryStep}
 

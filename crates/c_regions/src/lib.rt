@@ -177,7 +177,7 @@ pub fn copy_planner_next_buffer_texture_copy(plan: &mut [u64; 15], region: &mut 
     }
     buffer_texture_region(plan, region);
     plan[0] = left - 1;
-    plan[3] = std::num::wrapping_add_u64(plan[3], plan[2]);
+    plan[3] = plan[3].wrapping_add(plan[2]);
     plan[7] = layer_on(plan[7]);
     1
 }

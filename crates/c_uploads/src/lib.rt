@@ -6,6 +6,7 @@ ghost use Rattle.c_words.specs.Words.{copy_number, copy_plan, copy_ranges_of};
 ghost use Rattle.c_uploads.specs.Answer.{answer};
 
 use plan_buffer_texture::BufferTexturePlan;
+use records::TextureSide;
 use refusals::TransferError;
 
 fn plan_copy(
@@ -33,10 +34,12 @@ fn plan_copy(
         has_rows_per_image,
         rows_per_image,
     );
-    let t = c_records::texture_from(texture);
-    let v = c_records::view_from(view);
+    let t = TextureSide {
+        texture: c_records::texture_from(texture),
+        view: c_records::view_from(view),
+    };
     let s = c_records::size_from(size);
-    copy_buffer_texture::copy_buffer_to_texture(device, b, layout, t, v, s)
+    copy_buffer_texture::copy_buffer_to_texture(device, b, layout, t, s)
 }
 
 // 0 for an accepted copy, else the number of its refusal; its plan and its ranges, or the refusal's details.

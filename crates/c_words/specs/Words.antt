@@ -11,8 +11,7 @@ use Rattle.rule_init_ranges.specs.Init.{kind_number}
 use Rattle.plan_rows.specs.Rows.{buffer_texture_copy_numbers, base_numbers, size_numbers}
 use Rattle.plan_buffers.specs.declared.BufferPlan.{BufferPlan}
 use Rattle.plan_buffer_texture.specs.declared.BufferTexturePlan.{BufferTexturePlan}
-use Rattle.plan_textures.specs.declared.CopyParts.{CopyParts}
-use Rattle.plan_textures.specs.declared.CopyParts.TheVariants.{Whole, DepthStencil, Planes}
+use Rattle.plan_textures.specs.Numbers.{parts_number}
 use Rattle.plan_textures.specs.declared.TexturePlan.{TexturePlan}
 
 -- ---- plans: the regions left, what the next of them needs, and its numbers
@@ -24,11 +23,6 @@ buffer_words p = p.left ∷ p.bytes_checked ∷ p.region.src_offset ∷ p.region
 -- left, bytes checked, bytes from one region to the next, the region's twelve numbers
 unfoldable pub buffer_texture_words : BufferTexturePlan → List ℕ
 buffer_texture_words p = p.left ∷ p.bytes_checked ∷ p.stride ∷ buffer_texture_copy_numbers p.region
-
-unfoldable pub parts_number : CopyParts → ℕ
-parts_number Whole = 0
-parts_number DepthStencil = 1
-parts_number Planes = 2
 
 -- left, parts of a layer, the next of them, where the layer starts on both sides, size
 unfoldable pub texture_words : TexturePlan → List ℕ

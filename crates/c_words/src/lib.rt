@@ -3,13 +3,14 @@
 ghost use Rattle.std.proofs.Common.{rules};
 ghost use Rattle.std.specs.Prelude.{◌≡◌, [], ◌∷◌, ◌++◌, replicate, ◌≤◌, ◌-◌, ℕ, List};
 ghost use Rattle.plan_rows.specs.Rows.{base_numbers, size_numbers};
-ghost use Rattle.c_words.specs.Words.{parts_number, buffer_words, buffer_texture_words, texture_words, kind_word, buffer_range_words, range_words, layers_words, buffers_range_words, copy_range_words, texture_range_words, refused_words, details_words, answer_number, answer_plan, answer_ranges};
+ghost use Rattle.c_words.specs.Words.{buffer_words, buffer_texture_words, texture_words, kind_word, buffer_range_words, range_words, layers_words, buffers_range_words, copy_range_words, texture_range_words, refused_words, details_words, answer_number, answer_plan, answer_ranges};
 
 use plan_buffer_texture::BufferTexturePlan;
 use plan_buffers::BufferPlan;
-use plan_textures::{CopyParts, TexturePlan};
+use plan_textures::TexturePlan;
 use refusals::{Refusal, TransferError};
 use rule_init_ranges::{BufferInitRange, BufferInitRanges, MemoryInitKind, TextureInitRange};
+use std::marker::Model;
 
 #[tactic(auto, unfolding(crate::specs::Words::buffer_words))]
 pub fn buffer_words(p: BufferPlan) -> [u64; 6]
@@ -53,17 +54,6 @@ pub fn buffer_texture_words(p: BufferTexturePlan) -> [u64; 15]
     ]
 }
 
-#[tactic(auto, unfolding(crate::specs::Words::parts_number))]
-fn parts_number(parts: CopyParts) -> u64
-    ensures { result ≡ parts_number parts }
-{
-    match parts {
-        CopyParts::Whole => 0,
-        CopyParts::DepthStencil => 1,
-        CopyParts::Planes => 2,
-    }
-}
-
 #[tactic(auto, unfolding(crate::specs::Words::texture_words))]
 pub fn texture_words(p: TexturePlan) -> [u64; 18]
     ensures { result ≡ texture_words p }
@@ -73,7 +63,7 @@ pub fn texture_words(p: TexturePlan) -> [u64; 18]
     let size = p.size;
     [
         p.left as u64,
-        parts_number(p.parts),
+        u64::from(p.parts),
         p.part as u64,
         src.mip_level as u64,
         src.array_layer as u64,
@@ -101,6 +91,16 @@ struct RangeWords {
     end: u64,
 }
 
+impl Model for RangeWords {
+    ghost use Rattle.std.specs.Prelude.{[], ◌∷◌, ℕ, List, slice_index};
+
+    ghost Value = { List ℕ };
+
+    ghost view = { λ r. r.kind ∷ r.start ∷ r.end ∷ [] };
+
+    ghost inverse = { λ l. record { kind = slice_index l 0; start = slice_index l 1; end = slice_index l 2 } };
+}
+
 const NO_RANGE: RangeWords = RangeWords {
     kind: 0,
     start: 0,
@@ -113,41 +113,45 @@ fn kind_word(kind: MemoryInitKind) -> u64
     u32::from(kind) as u64 + 1
 }
 
-fn buffer_range(r: BufferInitRange) -> RangeWords
-    ensures { result.kind ∷ result.start ∷ result.end ∷ [] ≡ buffer_range_words r }
-{
-    RangeWords {
-        kind: kind_word(r.kind),
-        start: r.start,
-        end: r.end,
+impl From<BufferInitRange> for RangeWords {
+    ghost from_gives = { λ r words. words ≡ buffer_range_words r };
+
+    fn from(r: BufferInitRange) -> RangeWords {
+        RangeWords {
+            kind: kind_word(r.kind),
+            start: r.start,
+            end: r.end,
+        }
+    }
+}
+
+impl From<TextureInitRange> for RangeWords {
+    ghost from_gives = { λ r words. words ≡ layers_words r };
+
+    fn from(r: TextureInitRange) -> RangeWords {
+        RangeWords {
+            kind: kind_word(r.kind),
+            start: r.layers.start,
+            end: r.layers.end,
+        }
     }
 }
 
 #[tactic(auto, unfolding(crate::specs::Words::range_words))]
 fn range_words(range: Option<BufferInitRange>) -> RangeWords
-    ensures { result.kind ∷ result.start ∷ result.end ∷ [] ≡ range_words range }
+    ensures { result ≡ range_words range }
 {
-    range.map_or(NO_RANGE, buffer_range)
-}
-
-fn layers_words(r: TextureInitRange) -> RangeWords
-    ensures { result.kind ∷ result.start ∷ result.end ∷ [] ≡ layers_words r }
-{
-    RangeWords {
-        kind: kind_word(r.kind),
-        start: r.layers.start,
-        end: r.layers.end,
-    }
+    range.map_or(NO_RANGE, RangeWords::from)
 }
 
 fn two_ranges(a: RangeWords, b: RangeWords) -> [u64; 6]
-    ensures { result ≡ (a.kind ∷ a.start ∷ a.end ∷ []) ++ (b.kind ∷ b.start ∷ b.end ∷ []) }
+    ensures { result ≡ a ++ b }
 {
     [a.kind, a.start, a.end, b.kind, b.start, b.end]
 }
 
 fn four_ranges(a: RangeWords, b: RangeWords, c: RangeWords, d: RangeWords) -> [u64; 12]
-    ensures { result ≡ (a.kind ∷ a.start ∷ a.end ∷ []) ++ ((b.kind ∷ b.start ∷ b.end ∷ []) ++ ((c.kind ∷ c.start ∷ c.end ∷ []) ++ (d.kind ∷ d.start ∷ d.end ∷ []))) }
+    ensures { result ≡ a ++ (b ++ (c ++ d)) }
 {
     [
         a.kind, a.start, a.end, b.kind, b.start, b.end, c.kind, c.start, c.end, d.kind, d.start,
@@ -159,7 +163,7 @@ fn given_ranges(t: TextureInitRange, b: BufferInitRanges) -> [u64; 12]
     ensures { result ≡ layers_words t ++ (range_words b.head ++ (range_words b.whole ++ range_words b.tail)) }
 {
     four_ranges(
-        layers_words(t),
+        RangeWords::from(t),
         range_words(b.head),
         range_words(b.whole),
         range_words(b.tail),
@@ -181,7 +185,7 @@ fn texture_ranges(ranges: Option<(TextureInitRange, TextureInitRange)>) -> [u64;
     ensures { result ≡ texture_range_words ranges }
 {
     match ranges {
-        Some((s, d)) => two_ranges(layers_words(s), layers_words(d)),
+        Some((s, d)) => two_ranges(RangeWords::from(s), RangeWords::from(d)),
         None => [0; 6],
     }
 }

@@ -22,9 +22,9 @@ use Rattle.plan_kinds.specs.Regions.{checked_bytes_of as planBytes, region_numbe
 use Rattle.copy_kinds.specs.declared.InitRange.{InitRange}
 use Rattle.copy_kinds.specs.declared.InitRange.TheVariants.{Texture, Buffer}
 use Rattle.copy_kinds.specs.declared.Ranges.{Ranges}
-use Rattle.copy_kinds.specs.Ranges.{slot_count, count_of}
+use Rattle.copy_kinds.specs.Ranges.{range_at, slot_count, count_of}
 use Rattle.sheet_lines.specs.Lines.{range_text, ranges_text, copy_text, plan_text, answer_text, region_text}
-use Rattle.sheet_listing.specs.Listing.{regions_text, plan_answered, copy_answer}
+use Rattle.sheet_listing.specs.Listing.{regions_text, regions_left, plan_answered, copy_answer}
 use Rattle.claim_region_output.specs.Asking.{Region, Gives, ended, gave}
 use Rattle.claim_region_output.specs.Numbers.{Number, given, absent, numbers, slot, row, Below}
 use Rattle.claim_region_output.specs.Text.{text, digits, shown, spaced, line, region_lines, kind, range_line, range_lines, checked_bytes_of, accepted}
@@ -108,13 +108,13 @@ module _ (r : Ranges) where
   range_lines_lem : ranges_text r ≡ joined (range_lines r)
   unfolding ranges_text flat_map
   range_lines_lem =
-      rw ((range_line_lem r.first).0, (range_line_lem r.second).0, (range_line_lem r.third).0, (range_line_lem r.fourth).0, joined_both (range_line r.first), joined_both (range_line r.second), joined_both (range_line r.third), append-nil (range_line r.fourth))
+      rw ((range_line_lem (range_at r 0)).0, (range_line_lem (range_at r 1)).0, (range_line_lem (range_at r 2)).0, (range_line_lem (range_at r 3)).0, joined_both (range_line (range_at r 0)), joined_both (range_line (range_at r 1)), joined_both (range_line (range_at r 2)), append-nil (range_line (range_at r 3)))
 
   range_count : count_of r ≡ length (range_lines r)
   unfolding count_of flat_map
   range_count =
-      rw (append-nil (range_line r.fourth), length-append (range_line r.first), length-append (range_line r.second), length-append (range_line r.third))
-      (omega (arith, (range_line_lem r.first).1, (range_line_lem r.second).1, (range_line_lem r.third).1, (range_line_lem r.fourth).1))
+      rw (append-nil (range_line (range_at r 3)), length-append (range_line (range_at r 0)), length-append (range_line (range_at r 1)), length-append (range_line (range_at r 2)))
+      (omega (arith, (range_line_lem (range_at r 0)).1, (range_line_lem (range_at r 1)).1, (range_line_lem (range_at r 2)).1, (range_line_lem (range_at r 3)).1))
 
 -- ---- a copy
 
@@ -128,7 +128,7 @@ in_turn : (a b c d e : List ℕ) → ((a ++ b) ++ (c ++ d)) ++ e ≡ a ++ (b ++ 
 in_turn a b c d e = simp append_assoc
 
 pub every_plan_prints : EveryPlanPrints
-unfolding copy_answer answer_text plan_text copy_text plan_answered accepted line line_text text
+unfolding copy_answer answer_text plan_text copy_text plan_answered regions_left accepted line line_text text
 every_plan_prints p rs g h k r =
     rw (counted g, bytes_same p, range_count r, range_lines_lem r, region_lines_lem g h, plain (k ∷ []), plain (length rs ∷ length (range_lines r) ∷ checked_bytes_of p ∷ []))
     (in_turn (text "copy") (spaced (given k ∷ [])) (line " ok" (given (length rs) ∷ given (length (range_lines r)) ∷ given (checked_bytes_of p) ∷ [])) (joined (range_lines r)) (region_lines rs))

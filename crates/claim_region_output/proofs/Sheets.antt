@@ -31,7 +31,7 @@ use Rattle.sheet_records.specs.Records.{value_of, word_of, word_or_absent, exten
 use Rattle.sheet_copies.specs.CopyLines.{texture_side_at, named_buffers, buffers_planned, named_copy, copy_planned, named_memory, memory_planned, named_textures, textures_planned, line_planned}
 use Rattle.sheet_lines.specs.Lines.{sheet_text, copy_text, refusal_text, answer_text}
 use Rattle.sheet_copies.specs.Answers.{texture_places, buffer_places, device_at, answer_at}
-use Rattle.sheet_listing.specs.Listing.{no_plan, plan_answered, regions_text, copy_answer, copies_text, listing_from, listing_of}
+use Rattle.sheet_listing.specs.Listing.{plan_answered, regions_left, copy_answer, copies_text, listing_from, listing_of}
 use Rattle.claim_region_output.specs.Numbers.{optional}
 use Rattle.claim_region_output.specs.Text.{text, line, refused}
 use Rattle.claim_region_output.specs.Printed.{Prints, none, plan, refusal, answers, EverySheetLists}
@@ -161,7 +161,7 @@ module _ (s ts bs : List ℕ) (device : Device) (l : Line) (few : value_of l 1 <
 -- ---- a copy's text
 
 refused_text : (k : ℕ) (e : TransferError) → copy_answer k (Err e) ≡ refused k e
-unfolding copy_answer answer_text refusal_text copy_text plan_answered no_plan left_of regions_text refused line line_text text refusal_numbers
+unfolding copy_answer answer_text refusal_text copy_text plan_answered regions_left refused line line_text text refusal_numbers
 refused_text k e = rw (append-nil, plain (k ∷ []), plain (refusal_numbers e))
 
 one_copy : (k : ℕ) (a : Result (Plan × Ranges) TransferError) (more : List (Result (Plan × Ranges) TransferError)) (rest : List ℕ) → PlannedFit a → Prints (suc k) more rest → Prints k (a ∷ more) (copy_answer k a ++ rest)

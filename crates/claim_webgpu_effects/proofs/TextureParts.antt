@@ -3,15 +3,15 @@
 use mathlib.Core.Path.{◌≡◌, refl, sym, ap, ◌∙◌}
 use mathlib.Core.Bool.{Bool, true, false, cond}
 use mathlib.Core.List.{List, [], ◌∷◌}
-use Prim.Native.Nat.{ℕ, zero, suc, ◌+◌, ◌*◌, ◌/◌, ◌%◌, ◌<◌}
+use Prim.Native.Nat.{ℕ, zero, suc, ◌+◌, ◌-◌, ◌*◌, ◌/◌, ◌%◌, ◌≤◌, ◌<◌}
 use native.Mathlib.Omega.{arith}
 use native.Mathlib.Nat.{add-zero, zero-add, mul-zero, mod-lt, div-lt_iff_lt-mul}
 use lib.Dec.{eqb}
 use lib.ListN.{length, get_or}
 use lib.Arith.{digits_lt, digits_div, digits_mod}
 use borrow.Author.Tests.{ne_eqb, eqb-true}
-use Rattle.conditions.specs.Conditions.{stop_if}
-use Rattle.formats.specs.Table.{aspects_of, is_multi_planar, remove_srgb}
+use Rattle.conditions.specs.Conditions.{pick, stop_if}
+use Rattle.formats.specs.Table.{format_row, aspects_of, is_multi_planar, remove_srgb}
 use Rattle.formats.specs.Aspects.{aspect_specific_format}
 use Rattle.plan_textures.specs.declared.TextureCopy.{TextureCopy}
 use Rattle.copy_textures.specs.Copy.{is_this, is_plane_split}
@@ -133,15 +133,24 @@ borne word Depth true e h = (part 2 2 1, first refl, refl, refl, refl)
 borne word Stencil true e h = (part 4 4 1, later (first refl), refl, refl, refl)
 borne word a false e h = (part word word 1, first refl, h, h, refl)
 
+-- the format of which one is the srgb comes before it
+no_larger : (format : ℕ) → remove_srgb format ≤ format
+unfolding remove_srgb
+no_larger format = go (format_row format).srgb
+  where
+    go : (t : Bool) → pick t (format - 1) format ≤ format
+    go true = omega arith
+    go false = omega arith
+
 module _ (i j : ℕ) (c : Copy) (k : A.Accepted i j c) (src_known : Known c.src.texture.format) (dst_known : Known c.dst.texture.format) where
   abbrev pub word : ℕ
   word = aspects_of c.dst.texture.format
 
   no_split : is_plane_split c.src c.dst ≡ false
-  unfolding is_plane_split aspect_specific_format is_multi_planar stop_if is_this remove_srgb
+  unfolding is_plane_split aspect_specific_format is_multi_planar stop_if is_this
   no_split =
       let known = below c.src.texture.format src_known in
-      rw (ne_eqb (remove_srgb c.src.texture.format) 21 (λ e. omega (arith, e)))
+      rw (ne_eqb (remove_srgb c.src.texture.format) 21 (λ e. omega (arith, e, no_larger c.src.texture.format)))
 
   pub formats_alike : Alike c.src.texture.format c.dst.texture.format
   formats_alike = alike _ _ src_known dst_known (k.formats no_split)

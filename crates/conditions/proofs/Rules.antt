@@ -4,7 +4,8 @@ use mathlib.Core.Path.{◌≡◌, refl, sym, ◌∙◌, ap}
 use mathlib.Core.Bool.{Bool, true, false, not, ◌&&◌, ◌||◌}
 use mathlib.Core.Logic.{◌⊎◌, inl, inr}
 use mathlib.Core.List.{List, [], ◌∷◌}
-use Prim.Native.Nat.{ℕ}
+use Prim.Native.Nat.{ℕ, zero, suc, ◌+◌, ◌<◌, ◌≤◌}
+use lib.ListN.{length, get_or, drop, drop_of_length-le}
 use native.Mathlib.Omega.{arith}
 use borrow.Author.Rules.{rules}
 use borrow.Author.Tests.{lt-ltb, le-ltb, le-leb, lt-leb, eq-eqb, ne_eqb, not-true, not-false}
@@ -79,6 +80,37 @@ pub all_true : (ts : List Bool) → every ts ≡ true → AllTrue ts
 all_true [] e = tt
 all_true (t ∷ []) e = (e, tt)
 all_true (t ∷ u ∷ us) e = let p = both_true t (every (u ∷ us)) e in (p.0, all_true (u ∷ us) p.1)
+
+-- every test of a list, taken one after the other
+module _ (ts : List Bool) where
+  every_first : (t : Bool) → every (t ∷ ts) ≡ (t && every ts)
+  every_first t = go t ts
+    where
+      go : (t : Bool) (ts : List Bool) → every (t ∷ ts) ≡ (t && every ts)
+      go true [] = refl
+      go false [] = refl
+      go t (u ∷ us) = refl
+
+every_from : (ts : List Bool) (i : ℕ) → i < length ts → every (drop i ts) ≡ (get_or ts i false && every (drop (suc i) ts))
+every_from [] i h = absurd (omega arith)
+every_from (t ∷ ts) zero h = every_first ts t
+every_from (t ∷ ts) (suc i) h = every_from ts i (omega arith)
+
+and_on : (a t rest : Bool) → (a && (t && rest)) ≡ ((a && t) && rest)
+and_on true t rest = refl
+and_on false t rest = refl
+
+pub every_begun : (ts : List Bool) → (true && every (drop 0 ts)) ≡ every ts
+every_begun ts = refl
+
+pub every_goes : (ts : List Bool) (i : ℕ) (a : Bool) → i < length ts → (a && every (drop i ts)) ≡ every ts → ((a && get_or ts i false) && every (drop (i + 1) ts)) ≡ every ts
+every_goes ts i a h k =
+    let next : i + 1 ≡ suc i = omega arith in
+    rw next (sym (ap (λ (b : Bool). a && b) (every_from ts i h) ∙ and_on a _ _) ∙ k)
+
+pub every_ends : (ts : List Bool) (i : ℕ) (a : Bool) → length ts ≤ i → (a && every (drop i ts)) ≡ every ts → a ≡ every ts
+every_ends ts i true h k = ap every (sym (drop_of_length-le ts h)) ∙ k
+every_ends ts i false h k = k
 
 -- one line of an order of checks: it stops, or the rest decides
 module _ (R : Type 0) (e rest x : R) where

@@ -15,14 +15,14 @@ pub fn either(a: bool, b: bool) -> bool
     a || b
 }
 
-pub fn all_three(a: bool, b: bool, c: bool) -> bool
-    ensures { result ≡ every (a ∷ b ∷ c ∷ []) }
+// Every one of so many tests.
+#[tactic(auto, using(crate::proofs::Rules::every_begun, crate::proofs::Rules::every_goes, crate::proofs::Rules::every_ends))]
+pub fn all<const N: usize>(tests: [bool; N]) -> bool
+    ensures { result ≡ every tests.entry }
 {
-    both(a, both(b, c))
-}
-
-pub fn all_five(a: bool, b: bool, c: bool, d: bool, e: bool) -> bool
-    ensures { result ≡ every (a ∷ b ∷ c ∷ d ∷ e ∷ []) }
-{
-    both(a, both(b, all_three(c, d, e)))
+    let mut all = true;
+    for test in tests {
+        all &= test;
+    }
+    all
 }

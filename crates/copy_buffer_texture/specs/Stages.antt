@@ -13,6 +13,7 @@ use Rattle.refusals.specs.Order.{decided, checked}
 use Rattle.records.specs.declared.Buffer.{Buffer}
 use Rattle.records.specs.declared.Device.{Device}
 use Rattle.records.specs.declared.Texture.{Texture}
+use Rattle.records.specs.declared.TextureSide.{TextureSide}
 use Rattle.records.specs.declared.TexelCopyTextureInfo.{TexelCopyTextureInfo}
 use Rattle.records.specs.declared.TexelCopyBufferLayout.{TexelCopyBufferLayout}
 use Rattle.records.specs.Bounds.{buffer_checks, texture_checks}
@@ -67,8 +68,8 @@ upload_ranged device source layout t view size =
 -- the texture's record: 2
 unfoldable pub upload_recorded : Device → UploadSource → TexelCopyBufferLayout → Texture → TexelCopyTextureInfo → Extent3d → Result BufferTexturePlan TransferError
 upload_recorded device source layout t view size =
-    after (decided (texture_checks t Destination) (Ok t)) λ t.
-    upload_ranged device source layout t view size
+    after {A = TextureSide} (decided (texture_checks t Destination) (Ok (record { texture = t; view = view }))) λ t.
+    upload_ranged device source layout t.texture t.view size
 
 -- the buffer's: 3
 unfoldable pub upload_staged : Device → Buffer → TexelCopyBufferLayout → Texture → TexelCopyTextureInfo → Extent3d → Result BufferTexturePlan TransferError
@@ -111,6 +112,6 @@ download_ranged device b layout t view size =
 -- records: 2 source, 3 destination
 unfoldable pub download_staged : Device → Texture → TexelCopyTextureInfo → Buffer → TexelCopyBufferLayout → Extent3d → Result BufferTexturePlan TransferError
 download_staged device t view b layout size =
-    after (decided (texture_checks t Source) (Ok t)) λ t.
+    after {A = TextureSide} (decided (texture_checks t Source) (Ok (record { texture = t; view = view }))) λ t.
     after (decided (buffer_checks b Destination) (Ok b)) λ b.
-    download_ranged device b layout t view size
+    download_ranged device b layout t.texture t.view size

@@ -1,8 +1,8 @@
 #![tactic(auto)]
 // `copy_buffer_to_texture` and `copy_texture_to_buffer` of command/transfer.rs, and the validation of `Queue::write_texture` of
 // device/queue.rs in the order of the first, as plans.
-ghost use Rattle.std.specs.Prelude.{◌≡◌, true, ◌+◌, ◌^◌, ◌<◌};
-ghost use Rattle.rule_init_ranges.specs.Init.{src_texture_range, dst_texture_range, buffer_init};
+ghost use Rattle.std.specs.Prelude.{◌≡◌, true, ◌+◌};
+ghost use Rattle.rule_init_ranges.specs.Init.{src_texture_range, dst_texture_range};
 ghost use Rattle.records.specs.Bounds.{buffer_in_bounds, texture_in_bounds};
 ghost use Rattle.refusals.specs.Order.{checked};
 ghost use Rattle.rule_linear_data.specs.Linear.{linear_checked};
@@ -15,12 +15,9 @@ ghost use Rattle.copy_buffer_texture.specs.Laws.{source_in_bounds, EveryCopyLaw,
 use flags::{BufferUsages, FormatAspects, TextureUsages};
 use measures::Extent3d;
 use plan_buffer_texture::{BufferTexturePlan, TexturePart};
-use records::{
-    Buffer, CheckedBuffer, CheckedTexture, Device, TexelCopyBufferLayout, TexelCopyTextureInfo,
-    Texture,
-};
+use records::{Buffer, CheckedBuffer, CheckedSide, Device, TexelCopyBufferLayout, TextureSide};
 use refusals::{CopySide, DownlevelFlags, TransferError};
-use rule_init_ranges::BufferInitRanges;
+use rule_init_ranges::{BufferInitRanges, BufferSpan};
 use rule_linear_data::LinearData;
 
 #[tactic(auto, unfolding(crate::specs::Plan::lacks_depth_fact))]
@@ -52,10 +49,7 @@ fn lacks_copy_src(source: UploadSource) -> bool
 fn is_aligned(source: UploadSource) -> bool
     ensures { result ≡ is_aligned source }
 {
-    match source {
-        UploadSource::Buffer(_) => true,
-        UploadSource::Memory(_) => false,
-    }
+    matches!(source, UploadSource::Buffer(_))
 }
 
 fn source_size(source: UploadSource) -> u64
@@ -72,12 +66,13 @@ fn source_ranges(source: UploadSource, offset: u64, info: LinearData) -> BufferI
     ensures { result ≡ source_ranges source offset info }
 {
     match source {
-        UploadSource::Buffer(_) => rule_init_ranges::handle_buffer_init(
-            offset,
-            CopySide::Source,
-            info.bytes_in_copy,
-            info.is_contiguous,
-        ),
+        UploadSource::Buffer(_) => {
+            let span = BufferSpan {
+                offset,
+                bytes: info.bytes_in_copy,
+            };
+            rule_init_ranges::handle_buffer_init(span, CopySide::Source, info.is_contiguous)
+        }
         UploadSource::Memory(_) => BufferInitRanges {
             head: None,
             whole: None,
@@ -88,15 +83,14 @@ fn source_ranges(source: UploadSource, offset: u64, info: LinearData) -> BufferI
 
 // The part of the texture that is copied, where its range and its aspect are as they have to be.
 fn texture_part(
-    view: TexelCopyTextureInfo,
-    t: CheckedTexture,
+    t: CheckedSide,
     side: CopySide,
     size: Extent3d,
 ) -> Result<TexturePart, TransferError>
-    ensures { result ≡ part_checked view t.texture side size }
+    ensures { result ≡ part_checked t.side.view t.side.texture side size }
 {
-    let (extent, layers) = rule_copy_range::validate_texture_copy_range(view, t, side, size)?;
-    let (_, base) = rule_selectors::extract_texture_selector(view, size, t.texture)?;
+    let (extent, layers) = rule_copy_range::validate_texture_copy_range(t, side, size)?;
+    let (_, base) = rule_selectors::extract_texture_selector(t.side, size)?;
     Ok(TexturePart {
         extent,
         layers,
@@ -110,83 +104,89 @@ struct Upload {
     device: Device,
     source: UploadSource,
     layout: TexelCopyBufferLayout,
-    t: CheckedTexture,
-    view: TexelCopyTextureInfo,
+    t: CheckedSide,
     size: Extent3d,
     ghost source_checked: { source_in_bounds source ≡ true },
 }
 
 impl Upload {
     fn check_layout(&self, aspects: FormatAspects) -> Result<(), TransferError>
-        ensures { result ≡ checked (layout_checks self.now.view.aspect aspects.0 self.now.t.texture self.now.layout (is_aligned self.now.source)) }
+        ensures { result ≡ checked (layout_checks self.now.t.side.view.aspect aspects.0 self.now.t.side.texture self.now.layout (is_aligned self.now.source)) }
     {
         rule_formats::validate_texture_buffer_copy(
-            self.view.aspect,
+            self.t.side.view.aspect,
             aspects,
-            self.t.texture,
+            self.t.side.texture,
             self.layout,
             is_aligned(self.source),
         )
     }
 
     fn check_data(&self) -> Result<LinearData, TransferError>
-        ensures { result ≡ linear_checked self.now.layout self.now.t.texture.format self.now.view.aspect (source_size self.now.source) CopySide.Source self.now.size }
+        ensures { result ≡ linear_checked self.now.layout self.now.t.side.texture.format self.now.t.side.view.aspect (source_size self.now.source) CopySide.Source self.now.size }
     {
         rule_linear_data::validate_linear_texture_data(
             self.layout,
-            self.t.texture.format,
-            self.view.aspect,
+            self.t.side.texture.format,
+            self.t.side.view.aspect,
             source_size(self.source),
             CopySide::Source,
             self.size,
         )
     }
 
-    fn plan(&self, part: TexturePart, info: LinearData) -> BufferTexturePlan
-        requires { EndFits self.now.source (self.now.layout.offset + info.bytes_in_copy) }
-        ensures { result ≡ plan_of self.now.layout self.now.size part.extent part.layers part.base info (dst_texture_range self.now.view self.now.t.texture self.now.size) (source_ranges self.now.source self.now.layout.offset info) }
+    fn plan(
+        &self,
+        part: TexturePart,
+        info: LinearData,
+        buffer: BufferInitRanges,
+    ) -> BufferTexturePlan
+        ensures { result ≡ plan_of self.now.layout self.now.size part.extent part.layers part.base info (dst_texture_range self.now.t.side.view self.now.t.side.texture self.now.size) buffer }
     {
-        let texture = rule_init_ranges::dst_texture_range(self.view, self.t.texture, self.size);
-        let buffer = source_ranges(self.source, self.layout.offset, info);
+        let texture = rule_init_ranges::dst_texture_range(self.t.side, self.size);
         plan_buffer_texture::plan_of(self.layout, self.size, part, info, texture, buffer)
     }
 
     #[tactic(auto, using(refusals::proofs::Stages::copied), unfolding(crate::specs::Stages::upload_placed))]
     fn placed(&self, part: TexturePart) -> Result<BufferTexturePlan, TransferError>
-        ensures { result ≡ upload_placed self.now.device self.now.source self.now.layout self.now.t.texture self.now.view self.now.size part }
+        ensures { result ≡ upload_placed self.now.device self.now.source self.now.layout self.now.t.side.texture self.now.t.side.view self.now.size part }
     {
         let info = self.check_data()?;
-        if lacks_depth_fact(self.device, self.t.texture.format) {
+        if lacks_depth_fact(self.device, self.t.side.texture.format) {
             return Err(TransferError::MissingDownlevelFlags(
                 DownlevelFlags::DepthTextureAndBufferCopies,
             ));
         }
-        Ok(self.plan(part, info))
+        let buffer = source_ranges(self.source, self.layout.offset, info);
+        Ok(self.plan(part, info, buffer))
     }
 
     #[tactic(auto, using(refusals::proofs::Stages::copied), unfolding(crate::specs::Stages::upload_allowed))]
     fn allowed(&self, part: TexturePart) -> Result<BufferTexturePlan, TransferError>
-        ensures { result ≡ upload_allowed self.now.device self.now.source self.now.layout self.now.t.texture self.now.view self.now.size part }
+        ensures { result ≡ upload_allowed self.now.device self.now.source self.now.layout self.now.t.side.texture self.now.t.side.view self.now.size part }
     {
         if lacks_copy_src(self.source) {
             return Err(TransferError::MissingBufferUsage {
                 side: CopySide::Source,
             });
         }
-        if !self.t.texture.usage.contains(TextureUsages::COPY_DST) {
+        if !self.t.side.texture.usage.contains(TextureUsages::COPY_DST) {
             return Err(TransferError::MissingTextureUsage {
                 side: CopySide::Destination,
             });
         }
-        rule_formats::validate_texture_copy_dst_format(self.t.texture.format, self.view.aspect)?;
+        rule_formats::validate_texture_copy_dst_format(
+            self.t.side.texture.format,
+            self.t.side.view.aspect,
+        )?;
         self.check_layout(part.base.aspect)?;
         self.placed(part)
     }
 
     fn ranged(&self) -> Result<BufferTexturePlan, TransferError>
-        ensures { result ≡ upload_ranged self.now.device self.now.source self.now.layout self.now.t.texture self.now.view self.now.size }
+        ensures { result ≡ upload_ranged self.now.device self.now.source self.now.layout self.now.t.side.texture self.now.t.side.view self.now.size }
     {
-        let part = texture_part(self.view, self.t, CopySide::Destination, self.size)?;
+        let part = texture_part(self.t, CopySide::Destination, self.size)?;
         self.allowed(part)
     }
 }
@@ -195,12 +195,11 @@ fn copy_source_to_texture(
     device: Device,
     source: UploadSource,
     layout: TexelCopyBufferLayout,
-    t: Texture,
-    view: TexelCopyTextureInfo,
+    t: TextureSide,
     size: Extent3d,
 ) -> Result<BufferTexturePlan, TransferError>
     requires { source_in_bounds source ≡ true }
-    ensures { result ≡ upload_recorded device source layout t view size }
+    ensures { result ≡ upload_recorded device source layout t.texture t.view size }
 {
     let t = records::check_texture(t, CopySide::Destination)?;
     let upload = Upload {
@@ -208,7 +207,6 @@ fn copy_source_to_texture(
         source,
         layout,
         t,
-        view,
         size,
     };
     upload.ranged()
@@ -219,21 +217,13 @@ pub fn copy_buffer_to_texture(
     device: Device,
     b: Buffer,
     layout: TexelCopyBufferLayout,
-    t: Texture,
-    view: TexelCopyTextureInfo,
+    t: TextureSide,
     copy_size: Extent3d,
 ) -> Result<BufferTexturePlan, TransferError>
-    ensures { result ≡ buffer_to_texture device b layout t view copy_size }
+    ensures { result ≡ buffer_to_texture device b layout t.texture t.view copy_size }
 {
     let b = records::check_buffer(b, CopySide::Source)?;
-    copy_source_to_texture(
-        device,
-        UploadSource::Buffer(b.buffer),
-        layout,
-        t,
-        view,
-        copy_size,
-    )
+    copy_source_to_texture(device, UploadSource::Buffer(b.buffer), layout, t, copy_size)
 }
 
 // The plan of a copy from a block of memory of a length into a texture, or its refusal.
@@ -241,22 +231,20 @@ pub fn copy_memory_to_texture(
     device: Device,
     length: u64,
     layout: TexelCopyBufferLayout,
-    t: Texture,
-    view: TexelCopyTextureInfo,
+    t: TextureSide,
     copy_size: Extent3d,
 ) -> Result<BufferTexturePlan, TransferError>
-    ensures { result ≡ memory_to_texture device length layout t view copy_size }
+    ensures { result ≡ memory_to_texture device length layout t.texture t.view copy_size }
 {
     let source = UploadSource::Memory(length);
-    copy_source_to_texture(device, source, layout, t, view, copy_size)
+    copy_source_to_texture(device, source, layout, t, copy_size)
 }
 
 // A copy from a texture into a buffer, of records that were checked.
 #[derive(Clone, Copy)]
 struct Download {
     device: Device,
-    t: CheckedTexture,
-    view: TexelCopyTextureInfo,
+    t: CheckedSide,
     b: CheckedBuffer,
     layout: TexelCopyBufferLayout,
     size: Extent3d,
@@ -264,38 +252,36 @@ struct Download {
 
 impl Download {
     fn check_data(&self) -> Result<LinearData, TransferError>
-        ensures { result ≡ linear_checked self.now.layout self.now.t.texture.format self.now.view.aspect self.now.b.buffer.size CopySide.Destination self.now.size }
+        ensures { result ≡ linear_checked self.now.layout self.now.t.side.texture.format self.now.t.side.view.aspect self.now.b.buffer.size CopySide.Destination self.now.size }
     {
         rule_linear_data::validate_linear_texture_data(
             self.layout,
-            self.t.texture.format,
-            self.view.aspect,
+            self.t.side.texture.format,
+            self.t.side.view.aspect,
             self.b.buffer.size,
             CopySide::Destination,
             self.size,
         )
     }
 
-    fn plan(&self, part: TexturePart, info: LinearData) -> BufferTexturePlan
-        requires { self.now.layout.offset + info.bytes_in_copy < 2 ^ 63 }
-        ensures { result ≡ plan_of self.now.layout self.now.size part.extent part.layers part.base info (src_texture_range self.now.view self.now.t.texture self.now.size) (buffer_init self.now.layout.offset CopySide.Destination info.bytes_in_copy info.is_contiguous) }
+    fn plan(
+        &self,
+        part: TexturePart,
+        info: LinearData,
+        buffer: BufferInitRanges,
+    ) -> BufferTexturePlan
+        ensures { result ≡ plan_of self.now.layout self.now.size part.extent part.layers part.base info (src_texture_range self.now.t.side.view self.now.t.side.texture self.now.size) buffer }
     {
-        let texture = rule_init_ranges::src_texture_range(self.view, self.t.texture, self.size);
-        let buffer = rule_init_ranges::handle_buffer_init(
-            self.layout.offset,
-            CopySide::Destination,
-            info.bytes_in_copy,
-            info.is_contiguous,
-        );
+        let texture = rule_init_ranges::src_texture_range(self.t.side, self.size);
         plan_buffer_texture::plan_of(self.layout, self.size, part, info, texture, buffer)
     }
 
     #[tactic(auto, using(refusals::proofs::Stages::copied), unfolding(crate::specs::Stages::download_placed))]
     fn placed(&self, part: TexturePart) -> Result<BufferTexturePlan, TransferError>
-        ensures { result ≡ download_placed self.now.device self.now.b.buffer self.now.layout self.now.t.texture self.now.view self.now.size part }
+        ensures { result ≡ download_placed self.now.device self.now.b.buffer self.now.layout self.now.t.side.texture self.now.t.side.view self.now.size part }
     {
         let info = self.check_data()?;
-        if lacks_depth_fact(self.device, self.t.texture.format) {
+        if lacks_depth_fact(self.device, self.t.side.texture.format) {
             return Err(TransferError::MissingDownlevelFlags(
                 DownlevelFlags::DepthTextureAndBufferCopies,
             ));
@@ -305,35 +291,41 @@ impl Download {
                 side: CopySide::Destination,
             });
         }
-        Ok(self.plan(part, info))
+        let span = BufferSpan {
+            offset: self.layout.offset,
+            bytes: info.bytes_in_copy,
+        };
+        let direction = CopySide::Destination;
+        let buffer = rule_init_ranges::handle_buffer_init(span, direction, info.is_contiguous);
+        Ok(self.plan(part, info, buffer))
     }
 
     #[tactic(auto, using(refusals::proofs::Stages::copied), unfolding(crate::specs::Stages::download_allowed))]
     fn allowed(&self, part: TexturePart) -> Result<BufferTexturePlan, TransferError>
-        ensures { result ≡ download_allowed self.now.device self.now.b.buffer self.now.layout self.now.t.texture self.now.view self.now.size part }
+        ensures { result ≡ download_allowed self.now.device self.now.b.buffer self.now.layout self.now.t.side.texture self.now.t.side.view self.now.size part }
     {
-        let t = self.t.texture;
+        let t = self.t.side.texture;
         if !t.usage.contains(TextureUsages::COPY_SRC) {
             return Err(TransferError::MissingTextureUsage {
                 side: CopySide::Source,
             });
         }
-        if self.view.mip_level >= t.mip_level_count {
+        if self.t.side.view.mip_level >= t.mip_level_count {
             return Err(TransferError::InvalidMipLevel {
-                requested: self.view.mip_level,
+                requested: self.t.side.view.mip_level,
                 count: t.mip_level_count,
             });
         }
-        let aspect = self.view.aspect;
+        let aspect = self.t.side.view.aspect;
         rule_formats::validate_texture_copy_src_format(t.format, aspect)?;
         rule_formats::validate_texture_buffer_copy(aspect, part.base.aspect, t, self.layout, true)?;
         self.placed(part)
     }
 
     fn ranged(&self) -> Result<BufferTexturePlan, TransferError>
-        ensures { result ≡ download_ranged self.now.device self.now.b.buffer self.now.layout self.now.t.texture self.now.view self.now.size }
+        ensures { result ≡ download_ranged self.now.device self.now.b.buffer self.now.layout self.now.t.side.texture self.now.t.side.view self.now.size }
     {
-        let part = texture_part(self.view, self.t, CopySide::Source, self.size)?;
+        let part = texture_part(self.t, CopySide::Source, self.size)?;
         self.allowed(part)
     }
 }
@@ -341,20 +333,18 @@ impl Download {
 // The plan of a copy from a texture into a buffer, or its refusal.
 pub fn copy_texture_to_buffer(
     device: Device,
-    t: Texture,
-    view: TexelCopyTextureInfo,
+    t: TextureSide,
     b: Buffer,
     layout: TexelCopyBufferLayout,
     copy_size: Extent3d,
 ) -> Result<BufferTexturePlan, TransferError>
-    ensures { result ≡ texture_to_buffer device t view b layout copy_size }
+    ensures { result ≡ texture_to_buffer device t.texture t.view b layout copy_size }
 {
     let t = records::check_texture(t, CopySide::Source)?;
     let b = records::check_buffer(b, CopySide::Destination)?;
     let download = Download {
         device,
         t,
-        view,
         b,
         layout,
         size: copy_size,

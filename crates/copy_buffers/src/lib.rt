@@ -60,88 +60,9 @@ fn is_aligned(n: u64) -> bool
     n % COPY_BUFFER_ALIGNMENT == 0
 }
 
-#[tactic(auto, using(refusals::proofs::Stages::copied), unfolding(crate::specs::Stages::fitting_copy))]
-fn copy_fitting(
-    src: Buffer,
-    source_offset: u64,
-    dst: Buffer,
-    destination_offset: u64,
-    size: u64,
-) -> Result<BufferPlan, TransferError>
-    requires { source_offset ≤ src.size }
-    ensures { result ≡ fitting_copy src source_offset dst destination_offset size }
-{
-    if size > src.size - source_offset {
-        return Err(TransferError::BufferEndOffsetOverrun {
-            start_offset: source_offset,
-            size,
-            buffer_size: src.size,
-            side: CopySide::Source,
-        });
-    }
-    if destination_offset > dst.size {
-        return Err(TransferError::BufferStartOffsetOverrun {
-            start_offset: destination_offset,
-            buffer_size: dst.size,
-            side: CopySide::Destination,
-        });
-    }
-    if size > dst.size - destination_offset {
-        return Err(TransferError::BufferEndOffsetOverrun {
-            start_offset: destination_offset,
-            size,
-            buffer_size: dst.size,
-            side: CopySide::Destination,
-        });
-    }
-    Ok(plan_buffers::plan_of(source_offset, destination_offset, size))
-}
-
-#[tactic(auto, using(refusals::proofs::Stages::copied), unfolding(crate::specs::Stages::sized_copy))]
-fn copy_sized(
-    device: Device,
-    src: Buffer,
-    source_offset: u64,
-    dst: Buffer,
-    destination_offset: u64,
-    size: u64,
-) -> Result<BufferPlan, TransferError>
-    requires { source_offset ≤ src.size }
-    ensures { result ≡ sized_copy device src source_offset dst destination_offset size }
-{
-    if !is_aligned(size) {
-        return Err(TransferError::UnalignedCopySize(size));
-    }
-    if !is_aligned(source_offset) {
-        return Err(TransferError::UnalignedBufferOffset(source_offset));
-    }
-    if !is_aligned(destination_offset) {
-        return Err(TransferError::UnalignedBufferOffset(destination_offset));
-    }
-    if lacks_index_fact(device, src.usage, dst.usage) {
-        return Err(TransferError::MissingDownlevelFlags(DownlevelFlags::UnrestrictedIndexBuffer));
-    }
-    copy_fitting(src, source_offset, dst, destination_offset, size)
-}
-
-// An absent size is what is left of the source.
-fn copy_rest(
-    device: Device,
-    src: Buffer,
-    source_offset: u64,
-    dst: Buffer,
-    destination_offset: u64,
-    size: Option<u64>,
-) -> Result<BufferPlan, TransferError>
-    requires { source_offset ≤ src.size }
-    ensures { result ≡ sized_copy device src source_offset dst destination_offset (size_or size (src.size - source_offset)) }
-{
-    let bytes = size_or(size, src.size - source_offset);
-    copy_sized(device, src, source_offset, dst, destination_offset, bytes)
-}
-
-#[tactic(auto, using(refusals::proofs::Stages::copied))]
-fn copy_usable(
+// A copy between buffers whose records were checked. They are told apart by their indices.
+#[derive(Clone, Copy)]
+struct Transfer {
     device: Device,
     src_index: u32,
     src: Buffer,
@@ -150,30 +71,89 @@ fn copy_usable(
     dst: Buffer,
     destination_offset: u64,
     size: Option<u64>,
-) -> Result<BufferPlan, TransferError>
-    ensures { result ≡ usable_copy device src_index src source_offset dst_index dst destination_offset size }
-{
-    if src_index == dst_index {
-        return Err(TransferError::SameSourceDestinationBuffer);
+}
+
+impl Transfer {
+    #[tactic(auto, using(refusals::proofs::Stages::copied), unfolding(crate::specs::Stages::fitting_copy))]
+    fn fitting(&self, bytes: u64) -> Result<BufferPlan, TransferError>
+        requires { self.now.source_offset ≤ self.now.src.size }
+        ensures { result ≡ fitting_copy self.now.src self.now.source_offset self.now.dst self.now.destination_offset bytes }
+    {
+        if bytes > self.src.size - self.source_offset {
+            return Err(TransferError::BufferEndOffsetOverrun {
+                start_offset: self.source_offset,
+                size: bytes,
+                buffer_size: self.src.size,
+                side: CopySide::Source,
+            });
+        }
+        if self.destination_offset > self.dst.size {
+            return Err(TransferError::BufferStartOffsetOverrun {
+                start_offset: self.destination_offset,
+                buffer_size: self.dst.size,
+                side: CopySide::Destination,
+            });
+        }
+        if bytes > self.dst.size - self.destination_offset {
+            return Err(TransferError::BufferEndOffsetOverrun {
+                start_offset: self.destination_offset,
+                size: bytes,
+                buffer_size: self.dst.size,
+                side: CopySide::Destination,
+            });
+        }
+        Ok(plan_buffers::plan_of(self.source_offset, self.destination_offset, bytes))
     }
-    if !src.usage.contains(BufferUsages::COPY_SRC) {
-        return Err(TransferError::MissingBufferUsage {
-            side: CopySide::Source,
-        });
+
+    #[tactic(auto, using(refusals::proofs::Stages::copied), unfolding(crate::specs::Stages::sized_copy))]
+    fn sized(&self, bytes: u64) -> Result<BufferPlan, TransferError>
+        requires { self.now.source_offset ≤ self.now.src.size }
+        ensures { result ≡ sized_copy self.now.device self.now.src self.now.source_offset self.now.dst self.now.destination_offset bytes }
+    {
+        if !is_aligned(bytes) {
+            return Err(TransferError::UnalignedCopySize(bytes));
+        }
+        if !is_aligned(self.source_offset) {
+            return Err(TransferError::UnalignedBufferOffset(self.source_offset));
+        }
+        if !is_aligned(self.destination_offset) {
+            return Err(TransferError::UnalignedBufferOffset(self.destination_offset));
+        }
+        if lacks_index_fact(self.device, self.src.usage, self.dst.usage) {
+            return Err(TransferError::MissingDownlevelFlags(
+                DownlevelFlags::UnrestrictedIndexBuffer,
+            ));
+        }
+        self.fitting(bytes)
     }
-    if !dst.usage.contains(BufferUsages::COPY_DST) {
-        return Err(TransferError::MissingBufferUsage {
-            side: CopySide::Destination,
-        });
+
+    // An absent size is what is left of the source.
+    #[tactic(auto, using(refusals::proofs::Stages::copied))]
+    fn usable(&self) -> Result<BufferPlan, TransferError>
+        ensures { result ≡ usable_copy self.now.device self.now.src_index self.now.src self.now.source_offset self.now.dst_index self.now.dst self.now.destination_offset self.now.size }
+    {
+        if self.src_index == self.dst_index {
+            return Err(TransferError::SameSourceDestinationBuffer);
+        }
+        if !self.src.usage.contains(BufferUsages::COPY_SRC) {
+            return Err(TransferError::MissingBufferUsage {
+                side: CopySide::Source,
+            });
+        }
+        if !self.dst.usage.contains(BufferUsages::COPY_DST) {
+            return Err(TransferError::MissingBufferUsage {
+                side: CopySide::Destination,
+            });
+        }
+        if self.source_offset > self.src.size {
+            return Err(TransferError::BufferStartOffsetOverrun {
+                start_offset: self.source_offset,
+                buffer_size: self.src.size,
+                side: CopySide::Source,
+            });
+        }
+        self.sized(size_or(self.size, self.src.size - self.source_offset))
     }
-    if source_offset > src.size {
-        return Err(TransferError::BufferStartOffsetOverrun {
-            start_offset: source_offset,
-            buffer_size: src.size,
-            side: CopySide::Source,
-        });
-    }
-    copy_rest(device, src, source_offset, dst, destination_offset, size)
 }
 
 // The plan of a copy between the buffers of two indices, or its refusal.
@@ -191,16 +171,17 @@ pub fn copy_buffer_to_buffer(
 {
     let src = records::check_buffer(src, CopySide::Source)?;
     let dst = records::check_buffer(dst, CopySide::Destination)?;
-    copy_usable(
+    let transfer = Transfer {
         device,
         src_index,
-        src.buffer,
+        src: src.buffer,
         source_offset,
         dst_index,
-        dst.buffer,
+        dst: dst.buffer,
         destination_offset,
         size,
-    )
+    };
+    transfer.usable()
 }
 
 // Asks the check for the law of an accepted copy; nothing runs here.

@@ -1,15 +1,15 @@
 #![tactic(auto)]
 // A copy of any of the five kinds, with the records that it names: its plan and ranges, or its refusal.
-ghost use Rattle.std.specs.Prelude.{◌≡◌, [], ◌≤◌};
+ghost use Rattle.std.specs.Prelude.{◌≡◌, is_some, count_by};
 ghost use Rattle.copy_kinds.specs.Planned.{planned_buffers, planned_upload, planned_memory_upload, planned_download, planned_textures};
-ghost use Rattle.copy_kinds.specs.Ranges.{buffer_slot, no_ranges, buffer_ranges, texture_and_buffer, copy_ranges, memory_ranges, two_textures, texture_ranges, slot_count, count_of};
+ghost use Rattle.copy_kinds.specs.Ranges.{buffer_slot, no_ranges, buffer_ranges, texture_and_buffer, copy_ranges, memory_ranges, two_textures, texture_ranges, count_of};
 
 use measures::Extent3d;
 use plan_buffer_texture::BufferTexturePlan;
 use plan_buffers::BufferPlan;
 use plan_kinds::Plan;
 use plan_textures::TexturePlan;
-use records::{Buffer, Device, TexelCopyBufferLayout, TexelCopyTextureInfo, Texture, TextureSide};
+use records::{Buffer, Device, TexelCopyBufferLayout, TextureSide};
 use refusals::TransferError;
 use rule_init_ranges::{BufferInitRange, BufferInitRanges, TextureInitRange};
 
@@ -23,19 +23,14 @@ pub enum InitRange {
 // The ranges of a copy in their order, with slots between them that may be absent.
 #[derive(Clone, Copy)]
 pub struct Ranges {
-    pub first: Option<InitRange>,
-    pub second: Option<InitRange>,
-    pub third: Option<InitRange>,
-    pub fourth: Option<InitRange>,
+    pub slots: [Option<InitRange>; 4],
 }
 
+#[tactic(auto, unfolding(crate::specs::Ranges::buffer_slot))]
 fn buffer_slot(buffer: u32, range: Option<BufferInitRange>) -> Option<InitRange>
     ensures { result ≡ buffer_slot buffer range }
 {
-    match range {
-        Some(r) => Some(InitRange::Buffer(buffer, r)),
-        None => None,
-    }
+    range.map(|r| InitRange::Buffer(buffer, r))
 }
 
 #[tactic(auto, unfolding(crate::specs::Ranges::no_ranges))]
@@ -43,10 +38,7 @@ fn no_ranges() -> Ranges
     ensures { result ≡ no_ranges }
 {
     Ranges {
-        first: None,
-        second: None,
-        third: None,
-        fourth: None,
+        slots: [None, None, None, None],
     }
 }
 
@@ -55,10 +47,12 @@ fn buffer_ranges(src: u32, dst: u32, plan: BufferPlan) -> Ranges
     ensures { result ≡ buffer_ranges src dst plan }
 {
     Ranges {
-        first: buffer_slot(dst, plan.dst_range),
-        second: buffer_slot(src, plan.src_range),
-        third: None,
-        fourth: None,
+        slots: [
+            buffer_slot(dst, plan.dst_range),
+            buffer_slot(src, plan.src_range),
+            None,
+            None,
+        ],
     }
 }
 
@@ -67,10 +61,12 @@ fn texture_and_buffer(texture: u32, t: TextureInitRange, buffer: u32, b: BufferI
     ensures { result ≡ texture_and_buffer texture t buffer b }
 {
     Ranges {
-        first: Some(InitRange::Texture(texture, t)),
-        second: buffer_slot(buffer, b.head),
-        third: buffer_slot(buffer, b.whole),
-        fourth: buffer_slot(buffer, b.tail),
+        slots: [
+            Some(InitRange::Texture(texture, t)),
+            buffer_slot(buffer, b.head),
+            buffer_slot(buffer, b.whole),
+            buffer_slot(buffer, b.tail),
+        ],
     }
 }
 
@@ -92,10 +88,7 @@ fn memory_ranges(texture: u32, ranges: Option<(TextureInitRange, BufferInitRange
 {
     match ranges {
         Some((t, _)) => Ranges {
-            first: Some(InitRange::Texture(texture, t)),
-            second: None,
-            third: None,
-            fourth: None,
+            slots: [Some(InitRange::Texture(texture, t)), None, None, None],
         },
         None => no_ranges(),
     }
@@ -106,10 +99,12 @@ fn two_textures(src: u32, s: TextureInitRange, dst: u32, d: TextureInitRange) ->
     ensures { result ≡ two_textures src s dst d }
 {
     Ranges {
-        first: Some(InitRange::Texture(src, s)),
-        second: Some(InitRange::Texture(dst, d)),
-        third: None,
-        fourth: None,
+        slots: [
+            Some(InitRange::Texture(src, s)),
+            Some(InitRange::Texture(dst, d)),
+            None,
+            None,
+        ],
     }
 }
 
@@ -153,15 +148,12 @@ pub fn plan_upload(
     buffer: Buffer,
     layout: TexelCopyBufferLayout,
     texture_index: u32,
-    texture: Texture,
-    view: TexelCopyTextureInfo,
+    texture: TextureSide,
     size: Extent3d,
 ) -> Result<(Plan, Ranges), TransferError>
-    ensures { result ≡ planned_upload device buffer_index buffer layout texture_index texture view size }
+    ensures { result ≡ planned_upload device buffer_index buffer layout texture_index texture.texture texture.view size }
 {
-    let plan = copy_buffer_texture::copy_buffer_to_texture(
-        device, buffer, layout, texture, view, size,
-    )?;
+    let plan = copy_buffer_texture::copy_buffer_to_texture(device, buffer, layout, texture, size)?;
     let ranges = copy_ranges(texture_index, buffer_index, plan.ranges);
     Ok((Plan::BufferTexture(plan), ranges))
 }
@@ -172,15 +164,12 @@ pub fn plan_memory_upload(
     length: u64,
     layout: TexelCopyBufferLayout,
     texture_index: u32,
-    texture: Texture,
-    view: TexelCopyTextureInfo,
+    texture: TextureSide,
     size: Extent3d,
 ) -> Result<(Plan, Ranges), TransferError>
-    ensures { result ≡ planned_memory_upload device length layout texture_index texture view size }
+    ensures { result ≡ planned_memory_upload device length layout texture_index texture.texture texture.view size }
 {
-    let plan = copy_buffer_texture::copy_memory_to_texture(
-        device, length, layout, texture, view, size,
-    )?;
+    let plan = copy_buffer_texture::copy_memory_to_texture(device, length, layout, texture, size)?;
     let ranges = memory_ranges(texture_index, plan.ranges);
     Ok((Plan::BufferTexture(plan), ranges))
 }
@@ -189,18 +178,15 @@ pub fn plan_memory_upload(
 pub fn plan_download(
     device: Device,
     texture_index: u32,
-    texture: Texture,
-    view: TexelCopyTextureInfo,
+    texture: TextureSide,
     buffer_index: u32,
     buffer: Buffer,
     layout: TexelCopyBufferLayout,
     size: Extent3d,
 ) -> Result<(Plan, Ranges), TransferError>
-    ensures { result ≡ planned_download device texture_index texture view buffer_index buffer layout size }
+    ensures { result ≡ planned_download device texture_index texture.texture texture.view buffer_index buffer layout size }
 {
-    let plan = copy_buffer_texture::copy_texture_to_buffer(
-        device, texture, view, buffer, layout, size,
-    )?;
+    let plan = copy_buffer_texture::copy_texture_to_buffer(device, texture, buffer, layout, size)?;
     let ranges = copy_ranges(texture_index, buffer_index, plan.ranges);
     Ok((Plan::BufferTexture(plan), ranges))
 }
@@ -220,27 +206,17 @@ pub fn plan_textures(
     Ok((Plan::Textures(plan), ranges))
 }
 
-#[tactic(auto, unfolding(crate::specs::Ranges::slot_count))]
-fn slot_count(slot: Option<InitRange>) -> u32
-    ensures value { result ≡ slot_count slot }
-    ensures few { result ≤ 1 }
+fn given(slots: &[Option<InitRange>]) -> usize
+    ensures { result ≡ count_by is_some slots.now }
 {
-    match slot {
-        Some(_) => 1,
-        None => 0,
-    }
+    slots.iter().filter(|slot| slot.is_some()).count()
 }
 
 impl Ranges {
     // How many ranges there are.
-    #[tactic(auto, unfolding(crate::specs::Ranges::count_of))]
     pub fn count(self) -> u32
         ensures { result ≡ count_of self }
     {
-        let a = slot_count(self.first);
-        let b = slot_count(self.second);
-        let c = slot_count(self.third);
-        let d = slot_count(self.fourth);
-        a + b + c + d
+        given(&self.slots) as u32
     }
 }

@@ -2,7 +2,7 @@
 -- Assumes nothing.
 use Rattle.std.specs.Prelude.{Result, Ok, Err, IsErrAnd, is_ok}
 use mathlib.Core.Path.{◌≡◌, refl, sym, ◌∙◌}
-use mathlib.Core.Bool.{Bool, true, false, not}
+use mathlib.Core.Bool.{Bool, true, false}
 use mathlib.Core.List.{[]}
 use Prim.Native.Nat.{ℕ, ◌^◌, ◌≤◌, ◌<◌}
 use native.Mathlib.Omega.{arith}
@@ -30,16 +30,14 @@ use Rattle.rule_copy_range.proofs.Accepted.{every_range}
 
 -- ---- checks that are made under a test
 
-pub not_asked : (t : Bool) (checks : Checks) → not t ≡ true → (Ok tt) ≡ checked (pick t checks [])
+pub not_asked : (t : Bool) (checks : Checks) → t ≡ false → (Ok tt) ≡ checked (pick t checks [])
 unfolding decided
 not_asked true checks h = let z : ◌≡◌ {A = ℕ} 0 1 = cc in absurd (omega arith)
 not_asked false checks h = refl
 
-pub asked : (t : Bool) (checks : Checks) (x : Result Unit TransferError) → not t ≡ false → x ≡ checked checks → x ≡ checked (pick t checks [])
-asked true checks x h k = k
-asked false checks x h k = let z : ◌≡◌ {A = ℕ} 0 1 = cc in absurd (omega arith)
-
-pub ruleset under_test = (not_asked, asked)
+pub asked : (t : Bool) (checks : Checks) {x : Result Unit TransferError} → t ≡ true → x ≡ checked checks → x ≡ checked (pick t checks [])
+asked true checks h k = k
+asked false checks h k = let z : ◌≡◌ {A = ℕ} 0 1 = cc in absurd (omega arith)
 
 -- ---- what callees need
 

@@ -15,7 +15,6 @@ use Rattle.records.specs.Bounds.{both_texture_checks}
 use Rattle.rule_copy_range.specs.Range.{copy_extent, layer_count_of, range_checks}
 use Rattle.rule_selectors.specs.declared.TextureCopyBase.{TextureCopyBase}
 use Rattle.rule_selectors.specs.Selector.{selector_checked, same_texture_checks}
-use Rattle.records.specs.declared.Texture.{Texture}
 use Rattle.records.specs.declared.TextureSide.{TextureSide}
 use Rattle.plan_textures.specs.Plan.{plan_of}
 use Rattle.copy_textures.specs.Copy.{is_plane_split, formats_differ}
@@ -62,8 +61,8 @@ placed_copy same split src dst size =
 -- records: 2 source, 2 destination; 33; module 3 source, destination
 unfoldable pub texture_copy_staged : ℕ → TextureSide → ℕ → TextureSide → Extent3d → Result TexturePlan TransferError
 texture_copy_staged i src j dst size =
-    after {A = Texture × Texture} (decided (both_texture_checks src.texture dst.texture) (Ok (src.texture, dst.texture))) λ t.
+    after {A = TextureSide × TextureSide} (decided (both_texture_checks src.texture dst.texture) (Ok (src, dst))) λ t.
     stop_if (formats_differ src dst && not (is_plane_split src dst)) (Err (E.TextureFormatsNotCopyCompatible src.texture.format dst.texture.format)) $
-    after (checked (range_checks src.view t.0 Source size)) λ u.
-    after (checked (range_checks dst.view t.1 Destination size)) λ v.
+    after (checked (range_checks t.0.view t.0.texture Source size)) λ u.
+    after (checked (range_checks t.1.view t.1.texture Destination size)) λ v.
     placed_copy (eqb i j) (is_plane_split src dst) src dst size

@@ -13,7 +13,7 @@ pub struct BufferUsages(pub u32);
 #[derive(Clone, Copy)]
 pub struct TextureUsages(pub u32);
 
-#[derive(Clone, Copy)]
+#[derive(Clone, Copy, PartialEq, Eq)]
 pub struct FormatAspects(pub u32);
 
 // Whether every one of the flags is set in the word.
@@ -131,11 +131,14 @@ impl FormatAspects {
     pub fn is_one(self) -> bool
         ensures { result ≡ is_one self.0 }
     {
-        let a = self.0;
-        a == FormatAspects::COLOR.0
-            || (a == FormatAspects::DEPTH.0
-                || (a == FormatAspects::STENCIL.0
-                    || (a == FormatAspects::PLANE_0.0
-                        || (a == FormatAspects::PLANE_1.0 || a == FormatAspects::PLANE_2.0))))
+        matches!(
+            self,
+            FormatAspects::COLOR
+                | FormatAspects::DEPTH
+                | FormatAspects::STENCIL
+                | FormatAspects::PLANE_0
+                | FormatAspects::PLANE_1
+                | FormatAspects::PLANE_2
+        )
     }
 }

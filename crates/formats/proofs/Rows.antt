@@ -15,6 +15,7 @@ use Rattle.conditions.proofs.Tables.{at_each}
 use Rattle.measures.specs.Measure.{or_else}
 use Rattle.formats.specs.declared.FormatRow.{FormatRow}
 use Rattle.formats.specs.declared.TextureAspect.{TextureAspect}
+use Rattle.formats.specs.declared.TextureAspect.TheVariants.{All}
 use Rattle.formats.specs.Table.{formats, unknown, format_row, aspects_of, none, block_dimensions}
 use Rattle.formats.specs.Aspects.{asked_of, bytes_of, block_copy_size, chosen_aspects, unless_none}
 use Rattle.formats.specs.Laws.{EveryFormat, max_block_side, max_block_bytes}
@@ -35,7 +36,6 @@ tests r =
     ∷ leb r.stencil max_block_bytes
     ∷ leb r.plane_0 max_block_bytes
     ∷ leb r.plane_1 max_block_bytes
-    ∷ leb r.srgb 1
     ∷ []
 
 pub record Sound (r : FormatRow) : Type 0 where
@@ -48,10 +48,9 @@ pub record Sound (r : FormatRow) : Type 0 where
   pub stencil : r.stencil ≤ max_block_bytes
   pub plane_0_lem : r.plane_0 ≤ max_block_bytes
   pub plane_1_lem : r.plane_1 ≤ max_block_bytes
-  pub srgb : r.srgb ≤ 1
 
 passed : (r : FormatRow) → AllTrue (tests r) → Sound r
-passed r (w, (w', (h, (h', (c, (d, (s, (p, (q, (b, u)))))))))) =
+passed r (w, (w', (h, (h', (c, (d, (s, (p, (q, u))))))))) =
     record {
       width_some = ltb-true _ _ w;
       width_few = leb-true _ _ w';
@@ -62,7 +61,6 @@ passed r (w, (w', (h, (h', (c, (d, (s, (p, (q, (b, u)))))))))) =
       stencil = leb-true _ _ s;
       plane_0_lem = leb-true _ _ p;
       plane_1_lem = leb-true _ _ q;
-      srgb = leb-true _ _ b;
     }
 
 pub row_sound : (format : ℕ) → Sound (format_row format)
@@ -70,10 +68,10 @@ unfolding formats format_row
 row_sound format = passed (format_row format) (all_true (tests (format_row format)) (at_each (λ r. every (tests r)) formats unknown refl refl format))
 
 -- an srgb is never the first row
-pub srgb_fits : (format : ℕ) → (format_row format).srgb ≤ format
+pub srgb_fits : (format : ℕ) → (format_row format).srgb ≡ true → 1 ≤ format
 unfolding formats format_row
-srgb_fits zero = omega arith
-srgb_fits (suc n) = let s = (row_sound (suc n)).srgb in omega arith
+srgb_fits zero e = let z : ◌≡◌ {A = ℕ} 0 1 = cc in absurd (omega arith)
+srgb_fits (suc n) e = omega arith
 
 -- bytes are one of the row's, or none
 bytes_few : (r : FormatRow) → Sound r → (aspects : ℕ) → bytes_of r aspects ≤ max_block_bytes
@@ -119,6 +117,11 @@ number_of bytes false e = rw e
 pub chosen_size : (format : ℕ) (asked : TextureAspect) → bytes_of (format_row format) (chosen_aspects format asked) ≡ or_else (block_copy_size format asked) 0
 unfolding block_copy_size
 chosen_size format asked = number_of (bytes_of (format_row format) (chosen_aspects format asked)) _ refl
+
+-- asked for all of a colour format, it is colour
+pub asks_color : (aspects : ℕ) (asked : TextureAspect) (t : Bool) → asked ≡ All → t ≡ eqb aspects 1 → t ≡ true → asked_of aspects asked ≡ 1
+unfolding asked_of
+asks_color aspects asked t a e h = ap (asked_of aspects) a ∙ eqb-true aspects 1 (sym e ∙ h)
 
 -- where it is colour
 pub color_size :

@@ -1,11 +1,12 @@
 -- The aspects that a copy chooses of a format, and what they bring.
-use Rattle.std.specs.Prelude.{ℕ, [], ◌∷◌, eqb, get_or, Option, Some, None}
+use Rattle.std.specs.Prelude.{ℕ, [], ◌∷◌, eqb, leb, get_or, Option, Some, None, Result, Ok, Err}
 use Rattle.conditions.specs.Conditions.{pick, stop_if, ◌$◌}
 use Rattle.flags.specs.Flags.{meet}
 use Rattle.flags.specs.FormatAspects.{COLOR, DEPTH, STENCIL, PLANE_0, PLANE_1, PLANE_2}
 use Rattle.formats.specs.declared.FormatRow.{FormatRow}
 use Rattle.formats.specs.declared.TextureAspect.{TextureAspect}
 use Rattle.formats.specs.declared.TextureAspect.TheVariants.{All, StencilOnly, DepthOnly, Plane0, Plane1, Plane2}
+use Rattle.formats.specs.declared.UnknownAspect.{UnknownAspect}
 use Rattle.formats.specs.Table.{format_row, aspects_of, is_multi_planar, none}
 
 -- the last number that names an aspect
@@ -15,6 +16,10 @@ last_aspect = 5
 -- the aspect of a number, 0 to 5; a larger one, which callers refuse, counts as 5
 unfoldable pub aspect_of : ℕ → TextureAspect
 aspect_of n = get_or (All ∷ StencilOnly ∷ DepthOnly ∷ Plane0 ∷ Plane1 ∷ []) n Plane2
+
+-- the aspect that a number names; one that names none is handed back
+unfoldable pub named_aspect : ℕ → Result TextureAspect UnknownAspect
+named_aspect n = pick (leb n last_aspect) (Ok (aspect_of n)) (Err (record { 0 = n }))
 
 -- a word of aspects met with those asked
 unfoldable pub asked_of : ℕ → TextureAspect → ℕ

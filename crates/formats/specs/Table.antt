@@ -1,6 +1,7 @@
 -- The texture formats: a row each, and what follows from a row.
-use Rattle.std.specs.Prelude.{ℕ, ◌-◌, Bool, ◌&&◌, List, [], ◌∷◌, eqb, leb, ltb, get_or, length}
+use Rattle.std.specs.Prelude.{ℕ, ◌-◌, Bool, true, false, ◌&&◌, List, [], ◌∷◌, eqb, leb, ltb, get_or, length}
 use Rattle.std.specs.Int.Bits.{bit_or}
+use Rattle.conditions.specs.Conditions.{pick}
 use Rattle.flags.specs.FormatAspects.{COLOR, DEPTH, STENCIL, DEPTH_STENCIL, PLANE_0, PLANE_1}
 use Rattle.measures.specs.declared.BlockDimensions.{BlockDimensions}
 use Rattle.measures.specs.Measure.{texels}
@@ -15,14 +16,14 @@ abbrev pub PLANES : ℕ
 PLANES = bit_or PLANE_0 PLANE_1
 
 -- whether a row is the srgb of the row before it
-abbrev pub linear : ℕ
-linear = 0
+abbrev pub linear : Bool
+linear = false
 
-abbrev pub srgb : ℕ
-srgb = 1
+abbrev pub srgb : Bool
+srgb = true
 
 -- a colour format: its block's width, height and bytes
-abbrev pub color : ℕ → ℕ → ℕ → ℕ → FormatRow
+abbrev pub color : ℕ → ℕ → ℕ → Bool → FormatRow
 color width height bytes s =
     record {
       block_width = width;
@@ -130,7 +131,7 @@ is_combined_depth_stencil format = eqb (aspects_of format) DEPTH_STENCIL
 
 -- the format of which this one is the srgb, else this one
 unfoldable pub remove_srgb : ℕ → ℕ
-remove_srgb format = format - (format_row format).srgb
+remove_srgb format = pick (format_row format).srgb (format - 1) format
 
 -- formats that rules name
 abbrev pub depth24plus : ℕ

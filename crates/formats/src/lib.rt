@@ -4,7 +4,7 @@ ghost use Rattle.std.specs.Prelude.{◌≡◌, true, ◌≤◌, ◌<◌};
 ghost use Rattle.flags.specs.FormatAspects.{COLOR};
 ghost use Rattle.measures.specs.Measure.{or_else};
 ghost use Rattle.formats.specs.Table.{color as color_row, depth_stencil, planar as planar_row, format_row, is_format, block_dimensions, aspects_of, is_depth_stencil, is_combined_depth_stencil, remove_srgb, is_multi_planar};
-ghost use Rattle.formats.specs.Aspects.{aspect_of, asked_of, chosen_aspects, bytes_of, block_copy_size, plane_format, aspect_specific_format, subsampling_factor};
+ghost use Rattle.formats.specs.Aspects.{named_aspect, asked_of, chosen_aspects, bytes_of, block_copy_size, plane_format, aspect_specific_format, subsampling_factor};
 ghost use Rattle.formats.specs.Laws.{EveryFormat, max_block_side};
 
 use flags::FormatAspects;
@@ -16,10 +16,10 @@ const FORMAT_COUNT: u32 = 22;
 // The bytes of a block where an aspect has none that can be copied, or is not there.
 const NONE: u32 = 0;
 
-const LINEAR: u32 = 0;
+const LINEAR: bool = false;
 
 // A row that is the srgb of the row before it.
-const SRGB: u32 = 1;
+const SRGB: bool = true;
 
 pub const DEPTH24_PLUS: u32 = 17;
 
@@ -33,11 +33,8 @@ const NV12: u32 = 21;
 
 const PLANES: FormatAspects = FormatAspects(FormatAspects::PLANE_0.0 | FormatAspects::PLANE_1.0);
 
-// The last number that names what a copy may ask for of a texture.
-pub const LAST_ASPECT: u32 = 5;
-
 // What a copy asks for of a texture.
-#[derive(Clone, Copy)]
+#[derive(Clone, Copy, PartialEq, Eq)]
 pub enum TextureAspect {
     All,
     StencilOnly,
@@ -52,7 +49,7 @@ pub enum TextureAspect {
 pub struct FormatRow {
     pub block_width: u32,
     pub block_height: u32,
-    pub srgb: u32,
+    pub srgb: bool,
     pub aspects: FormatAspects,
     pub color: u32,
     pub depth: u32,
@@ -61,7 +58,20 @@ pub struct FormatRow {
     pub plane_1: u32,
 }
 
-fn color(block_width: u32, block_height: u32, bytes: u32, srgb: u32) -> FormatRow
+// A row of no aspect and no bytes: each row says what it has of them.
+const NO_BYTES: FormatRow = FormatRow {
+    block_width: 1,
+    block_height: 1,
+    srgb: LINEAR,
+    aspects: FormatAspects(0),
+    color: NONE,
+    depth: NONE,
+    stencil: NONE,
+    plane_0: NONE,
+    plane_1: NONE,
+};
+
+fn color(block_width: u32, block_height: u32, bytes: u32, srgb: bool) -> FormatRow
     ensures { result ≡ color_row block_width block_height bytes srgb }
 {
     FormatRow {
@@ -70,10 +80,7 @@ fn color(block_width: u32, block_height: u32, bytes: u32, srgb: u32) -> FormatRo
         srgb,
         aspects: FormatAspects::COLOR,
         color: bytes,
-        depth: NONE,
-        stencil: NONE,
-        plane_0: NONE,
-        plane_1: NONE,
+        ..NO_BYTES
     }
 }
 
@@ -81,15 +88,10 @@ fn depth_stencil(aspects: FormatAspects, depth: u32, stencil: u32) -> FormatRow
     ensures { result ≡ depth_stencil aspects.0 depth stencil }
 {
     FormatRow {
-        block_width: 1,
-        block_height: 1,
-        srgb: LINEAR,
         aspects,
-        color: NONE,
         depth,
         stencil,
-        plane_0: NONE,
-        plane_1: NONE,
+        ..NO_BYTES
     }
 }
 
@@ -97,15 +99,10 @@ fn planar(aspects: FormatAspects, plane_0: u32, plane_1: u32) -> FormatRow
     ensures { result ≡ planar_row aspects.0 plane_0 plane_1 }
 {
     FormatRow {
-        block_width: 1,
-        block_height: 1,
-        srgb: LINEAR,
         aspects,
-        color: NONE,
-        depth: NONE,
-        stencil: NONE,
         plane_0,
         plane_1,
+        ..NO_BYTES
     }
 }
 
@@ -137,7 +134,7 @@ fn format_row(format: u32) -> FormatRow
         19 => depth_stencil(FormatAspects::DEPTH, 4, NONE),
         20 => depth_stencil(FormatAspects::DEPTH_STENCIL, 4, 1),
         21 => planar(PLANES, 1, 2),
-        _ => planar(FormatAspects(0), NONE, NONE),
+        _ => NO_BYTES,
     }
 }
 
@@ -169,18 +166,26 @@ pub fn format_aspects(format: u32) -> FormatAspects
     row.aspects
 }
 
-// The aspect of a number, 0 to 5; a larger one, which callers refuse, counts as 5.
-#[tactic(auto, unfolding(crate::specs::Aspects::aspect_of))]
-pub fn aspect_of(n: u64) -> TextureAspect
-    ensures { result ≡ aspect_of n }
-{
-    match n {
-        0 => TextureAspect::All,
-        1 => TextureAspect::StencilOnly,
-        2 => TextureAspect::DepthOnly,
-        3 => TextureAspect::Plane0,
-        4 => TextureAspect::Plane1,
-        _ => TextureAspect::Plane2,
+// A number that no aspect has.
+#[derive(Clone, Copy)]
+pub struct UnknownAspect(pub u64);
+
+impl TryFrom<u64> for TextureAspect {
+    type Error = UnknownAspect;
+
+    ghost try_from_gives = { λ n aspect. aspect ≡ named_aspect n };
+
+    #[tactic(auto, unfolding(crate::specs::Aspects::aspect_of, crate::specs::Aspects::named_aspect))]
+    fn try_from(n: u64) -> Result<TextureAspect, UnknownAspect> {
+        match n {
+            0 => Ok(TextureAspect::All),
+            1 => Ok(TextureAspect::StencilOnly),
+            2 => Ok(TextureAspect::DepthOnly),
+            3 => Ok(TextureAspect::Plane0),
+            4 => Ok(TextureAspect::Plane1),
+            5 => Ok(TextureAspect::Plane2),
+            _ => Err(UnknownAspect(n)),
+        }
     }
 }
 
@@ -242,35 +247,25 @@ fn plane_1_bytes(format: u32) -> u32
     row.plane_1
 }
 
+#[tactic(auto, using(conditions::proofs::Rules::lines), unfolding(crate::specs::Aspects::bytes_of))]
 fn bytes_of(format: u32, aspects: FormatAspects) -> u32
     ensures { result ≡ bytes_of (format_row format) aspects.0 }
 {
-    let bits = aspects.0;
-    if bits == FormatAspects::COLOR.0 {
-        return color_bytes(format);
+    match aspects {
+        FormatAspects::COLOR => color_bytes(format),
+        FormatAspects::DEPTH => depth_bytes(format),
+        FormatAspects::STENCIL => stencil_bytes(format),
+        FormatAspects::PLANE_0 => plane_0_bytes(format),
+        FormatAspects::PLANE_1 => plane_1_bytes(format),
+        _ => NONE,
     }
-    if bits == FormatAspects::DEPTH.0 {
-        return depth_bytes(format);
-    }
-    if bits == FormatAspects::STENCIL.0 {
-        return stencil_bytes(format);
-    }
-    if bits == FormatAspects::PLANE_0.0 {
-        return plane_0_bytes(format);
-    }
-    if bits == FormatAspects::PLANE_1.0 {
-        return plane_1_bytes(format);
-    }
-    NONE
 }
 
+#[tactic(auto, using(crate::proofs::Rows::asks_color))]
 fn is_color(aspects: FormatAspects, asked: TextureAspect) -> bool
     ensures { result ≡ true → asked_of aspects.0 asked ≡ COLOR }
 {
-    match asked {
-        TextureAspect::All => aspects.0 == FormatAspects::COLOR.0,
-        _ => false,
-    }
+    asked == TextureAspect::All && aspects == FormatAspects::COLOR
 }
 
 // The bytes of a block of the one aspect that a copy chooses; `NONE` where it has none. Nearly every copy is of a colour format.
@@ -296,23 +291,23 @@ pub fn block_copy_size(format: u32, asked: TextureAspect) -> Option<u32>
 pub fn is_depth_stencil_format(format: u32) -> bool
     ensures { result ≡ is_depth_stencil format }
 {
-    format >= 15 && format <= 20
+    (15..=20).contains(&format)
 }
 
 #[tactic(auto, unfolding(crate::specs::Table::is_combined_depth_stencil))]
 pub fn is_combined_depth_stencil_format(format: u32) -> bool
     ensures { result ≡ is_combined_depth_stencil format }
 {
-    let aspects = format_aspects(format);
-    aspects.0 == FormatAspects::DEPTH_STENCIL.0
+    format_aspects(format) == FormatAspects::DEPTH_STENCIL
 }
 
 // The format of which this one is the srgb, else this one.
+#[tactic(auto, using(crate::proofs::Rows::srgb_fits), unfolding(crate::specs::Table::remove_srgb))]
 pub fn remove_srgb_suffix(format: u32) -> u32
     ensures { result ≡ remove_srgb format }
 {
     let row = format_row(format);
-    format - row.srgb
+    if row.srgb { format - 1 } else { format }
 }
 
 #[tactic(auto, unfolding(crate::specs::Table::is_multi_planar))]

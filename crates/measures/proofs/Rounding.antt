@@ -1,11 +1,14 @@
 -- The laws of blocks, over any block size of at least 1.
 -- Assumes nothing.
 use mathlib.Core.Path.{◌≡◌, sym, ap, ◌∙◌}
+use mathlib.Core.Logic.{◌⊎◌, inl, inr}
 use Prim.Native.Nat.{ℕ, ◌+◌, ◌-◌, ◌*◌, ◌/◌, ◌%◌, ◌≤◌, ◌<◌}
 use native.Mathlib.Omega.{arith}
-use native.Mathlib.Nat.{add-mul, div-add-mod', div-lt_iff_lt-mul, div-mul-le_self, div-one, lt-div-mul-add, mod-lt, mul-mod_left, mul-one}
+use native.Mathlib.Nat.{add-mul, div-add-mod', div-lt_iff_lt-mul, div-mul-le_self, div-one, eq-zero-or-pos, lt-div-mul-add, mod-lt, mul-mod_left, mul-one}
 use lib.Arith.{digits_div}
-use Rattle.measures.specs.Measure.{blocks_of, rounded_up}
+use Rattle.std.specs.Int.{div_ceil}
+use Rattle.measures.specs.declared.Texels.{Texels}
+use Rattle.measures.specs.Measure.{blocks, blocks_of, rounded_up}
 use Rattle.measures.specs.Laws.{EveryBlockSize}
 
 -- blocks of one texel
@@ -31,6 +34,18 @@ module _ (size : ℕ) (pos : 0 < size) where
       let low : n % size < size = mod-lt n pos in
       let over : (n / size + 1) * size + (n % size - 1) ≡ n + (size - 1) = omega (arith, div-add-mod' n size, add-mul (n / size) 1 size) in
       ap (λ (k : ℕ). k / size) (sym over) ∙ digits_div (n / size + 1) (omega arith)
+
+  -- and so the quotient rounded up
+  pub blocks_ceil : (n : ℕ) → div_ceil n size ≡ blocks_of n size
+  blocks_ceil n = go (eq-zero-or-pos (n % size))
+    where
+      go : (n % size ≡ 0) ⊎ (0 < n % size) → div_ceil n size ≡ blocks_of n size
+      go (inl e) = omega (arith, blocks_of_whole n e)
+      go (inr h) = omega (arith, blocks_of_rest n h)
+
+  -- as the code says it, of a block's side
+  pub counted : (side n : Texels) → size ≡ side.0 → blocks (div_ceil n.0 size) ≡ blocks (blocks_of n.0 side.0)
+  counted side n e = rw (← e) (ap blocks (blocks_ceil n.0))
 
   holds : (n : ℕ) → n ≤ rounded_up n size
   unfolding blocks_of rounded_up

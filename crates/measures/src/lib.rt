@@ -7,7 +7,7 @@ ghost use Rattle.measures.specs.Laws.{EveryBlockSize};
 use std::marker::Model;
 
 // Texels along one side.
-#[derive(Clone, Copy)]
+#[derive(Clone, Copy, PartialEq, Eq)]
 pub struct Texels(pub u32);
 
 // Texel blocks along one side: rows or columns. No function takes them for texels; `Texels::in_blocks` joins the two.
@@ -52,6 +52,7 @@ impl BlockSide {
 
 impl Texels {
     // How many blocks of a side hold these.
+    #[tactic(auto, using(crate::proofs::Rounding::counted), unfolding(crate::specs::Measure::in_blocks))]
     pub fn in_blocks(self, side: BlockSide) -> Blocks
         ensures { result ≡ in_blocks self side }
     {
@@ -60,12 +61,7 @@ impl Texels {
         if size == 1 {
             return Blocks(self.0);
         }
-        let whole = self.0 / size;
-        if self.0 % size == 0 {
-            Blocks(whole)
-        } else {
-            Blocks(whole + 1)
-        }
+        Blocks(self.0.div_ceil(size))
     }
 
     // Whether these are whole blocks of a side.
@@ -80,10 +76,11 @@ impl Texels {
     }
 
     // The lesser of two.
+    #[tactic(auto, unfolding(crate::specs::Measure::lesser_of))]
     pub fn min(self, other: Texels) -> Texels
         ensures { result ≡ lesser_of self other }
     {
-        if self.0 < other.0 { self } else { other }
+        Texels(self.0.min(other.0))
     }
 
     // These divided by a factor, rounded down.

@@ -13,17 +13,18 @@ pub enum TextureDimension {
     D3,
 }
 
-// The dimension that a texture record's number names: 1, 2 or 3.
-pub fn texture_dimension(n: u32) -> TextureDimension
-    ensures { result ≡ texture_dimension n }
-{
-    if n == 1 {
-        return TextureDimension::D1;
+// The dimension that a texture record's number names: 1, 2 or 3. Such a record was checked: any other number counts as 2.
+impl From<u32> for TextureDimension {
+    ghost from_gives = { λ n dimension. dimension ≡ texture_dimension n };
+
+    #[tactic(auto, using(conditions::proofs::Rules::lines), unfolding(crate::specs::Level::texture_dimension))]
+    fn from(n: u32) -> TextureDimension {
+        match n {
+            1 => TextureDimension::D1,
+            3 => TextureDimension::D3,
+            _ => TextureDimension::D2,
+        }
     }
-    if n == 3 {
-        return TextureDimension::D3;
-    }
-    TextureDimension::D2
 }
 
 // A side of a level: halved level times, at least 1.
@@ -34,8 +35,7 @@ fn side_at(n: u32, level: u32) -> u32
     if level >= 32 {
         return 1;
     }
-    let halved = n >> level;
-    if halved == 0 { 1 } else { halved }
+    (n >> level).max(1)
 }
 
 fn texels_at(n: Texels, level: u32) -> Texels
@@ -48,8 +48,8 @@ fn texels_at(n: Texels, level: u32) -> Texels
 pub fn mip_level_size(dimension: TextureDimension, size: Extent3d, level: u32) -> Extent3d
     ensures { result ≡ mip_level_size dimension size level }
 {
-    let width = texels_at(Texels(size.width.0), level);
-    let height = texels_at(Texels(size.height.0), level);
+    let width = texels_at(size.width, level);
+    let height = texels_at(size.height, level);
     let depth = side_at(size.depth_or_array_layers, level);
     match dimension {
         TextureDimension::D1 => Extent3d {

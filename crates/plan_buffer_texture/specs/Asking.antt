@@ -4,7 +4,7 @@ use Rattle.conditions.specs.Conditions.{stop_if, ◌$◌}
 use Rattle.rule_selectors.specs.Selector.{next_layer}
 use Rattle.plan_buffer_texture.specs.declared.BufferTextureCopy.{BufferTextureCopy}
 use Rattle.plan_buffer_texture.specs.declared.BufferTexturePlan.{BufferTexturePlan}
-use Rattle.plan_buffer_texture.specs.declared.AskedBufferTexture.{AskedBufferTexture}
+use Rattle.plan_asked.specs.declared.Asked.{Asked}
 
 -- one stride and one layer on. The sums wrap; those of an accepted copy's regions never do.
 unfoldable pub moved : BufferTextureCopy → ℕ → BufferTextureCopy
@@ -28,7 +28,7 @@ advanced p =
     }
 
 -- none left, and the plan unchanged; else its region beside the advanced plan
-unfoldable pub next_of : BufferTexturePlan → AskedBufferTexture
+unfoldable pub next_of : BufferTexturePlan → Asked BufferTextureCopy BufferTexturePlan
 next_of p =
     stop_if (p.left == 0) (record { answer = None; plan = p }) $
     record { answer = Some p.region; plan = advanced p }

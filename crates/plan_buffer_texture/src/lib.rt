@@ -1,11 +1,11 @@
 #![tactic(auto)]
 // The plan of a copy between a buffer, or memory, and a texture, asked for its regions one by one.
-ghost use Rattle.std.specs.Prelude.{◌≡◌, ◌<◌};
-ghost use Rattle.conditions.specs.Conditions.{pick};
-ghost use Rattle.plan_buffer_texture.specs.Plan.{first_region, ranges_of, plan_of};
+ghost use Rattle.std.specs.Prelude.{◌≡◌, ◌-◌};
+ghost use Rattle.plan_buffer_texture.specs.Plan.{first_region, plan_of};
 ghost use Rattle.plan_buffer_texture.specs.Asking.{moved, advanced, next_of};
 
 use measures::Extent3d;
+use plan_asked::Asked;
 use records::TexelCopyBufferLayout;
 use rule_copy_range::CopyExtent;
 use rule_init_ranges::{BufferInitRanges, TextureInitRange};
@@ -42,12 +42,6 @@ pub struct BufferTexturePlan {
     pub bytes_checked: u64,
 }
 
-#[derive(Clone, Copy)]
-pub struct AskedBufferTexture {
-    pub answer: Option<BufferTextureCopy>,
-    pub plan: BufferTexturePlan,
-}
-
 #[tactic(auto, unfolding(crate::specs::Plan::first_region))]
 fn first_region(
     layout: TexelCopyBufferLayout,
@@ -65,29 +59,6 @@ fn first_region(
     }
 }
 
-#[tactic(auto, unfolding(crate::specs::Plan::ranges_of))]
-fn ranges_of(
-    empty: bool,
-    texture: TextureInitRange,
-    buffer: BufferInitRanges,
-) -> Option<(TextureInitRange, BufferInitRanges)>
-    ensures { result ≡ ranges_of empty texture buffer }
-{
-    if empty {
-        return None;
-    }
-    Some((texture, buffer))
-}
-
-fn count_of(empty: bool, layers: u32) -> u32
-    ensures { result ≡ pick empty 0 layers }
-{
-    if empty {
-        return 0;
-    }
-    layers
-}
-
 // The plan of a copy that has passed its checks.
 pub fn plan_of(
     layout: TexelCopyBufferLayout,
@@ -101,8 +72,8 @@ pub fn plan_of(
 {
     let empty = measures::is_empty(size);
     let region = first_region(layout, part.base, part.extent);
-    let left = count_of(empty, part.layers);
-    let ranges = ranges_of(empty, texture, buffer);
+    let ranges = (!empty).then_some((texture, buffer));
+    let left = if empty { 0 } else { part.layers };
     BufferTexturePlan {
         region,
         stride: info.image_stride,
@@ -126,31 +97,31 @@ impl BufferTextureCopy {
 }
 
 impl BufferTexturePlan {
+    // One region on, with so many left.
     #[tactic(auto, unfolding(crate::specs::Asking::advanced))]
-    fn advance(self) -> BufferTexturePlan
-        requires { 0 < self.left }
-        ensures { result ≡ advanced self }
+    fn advance(self, left: u32) -> BufferTexturePlan
+        ensures { left ≡ self.left - 1 → result ≡ advanced self }
     {
         BufferTexturePlan {
             region: self.region.moved(self.stride),
-            left: self.left - 1,
+            left,
             ..self
         }
     }
 
     // The next region and the plan after it; past the last none, and the plan as it is.
-    pub fn next(self) -> AskedBufferTexture
+    pub fn next(self) -> Asked<BufferTextureCopy, BufferTexturePlan>
         ensures { result ≡ next_of self }
     {
-        if self.left == 0 {
-            return AskedBufferTexture {
+        match self.left.checked_sub(1) {
+            Some(left) => Asked {
+                answer: Some(self.region),
+                plan: self.advance(left),
+            },
+            None => Asked {
                 answer: None,
                 plan: self,
-            };
-        }
-        AskedBufferTexture {
-            answer: Some(self.region),
-            plan: self.advance(),
+            },
         }
     }
 }

@@ -2,7 +2,8 @@
 use Rattle.std.specs.Prelude.{◌-◌, eqb, Some, None}
 use Rattle.conditions.specs.Conditions.{stop_if, ◌$◌}
 use Rattle.plan_buffers.specs.declared.BufferPlan.{BufferPlan}
-use Rattle.plan_buffers.specs.declared.AskedBuffer.{AskedBuffer}
+use Rattle.plan_buffers.specs.declared.BufferCopy.{BufferCopy}
+use Rattle.plan_asked.specs.declared.Asked.{Asked}
 
 -- the plan with one region fewer
 unfoldable pub advanced : BufferPlan → BufferPlan
@@ -16,7 +17,7 @@ advanced p =
     }
 
 -- none left, and the plan unchanged; else its region beside the advanced plan
-unfoldable pub next_of : BufferPlan → AskedBuffer
+unfoldable pub next_of : BufferPlan → Asked BufferCopy BufferPlan
 next_of p =
     stop_if (eqb p.left 0) (record { answer = None; plan = p }) $
     record { answer = Some p.region; plan = advanced p }

@@ -1,2 +1,3 @@
 pub mod Behind
+pub mod Numbers
 pub mod Ranges

@@ -10,7 +10,7 @@ use Rattle.plan_textures.specs.declared.CopyParts.{CopyParts}
 use Rattle.plan_textures.specs.declared.CopyParts.TheVariants.{Whole, DepthStencil, Planes}
 use Rattle.plan_textures.specs.declared.TexturePlan.{TexturePlan}
 use Rattle.plan_kinds.specs.declared.Plan.TheVariants.{Textures}
-use Rattle.plan_kinds.specs.Regions.{region_numbers, behind_of, textures_with}
+use Rattle.plan_kinds.specs.Regions.{region_numbers, next_numbers, behind_of, textures_with}
 use Rattle.rule_init_ranges.specs.declared.TextureInitRange.{TextureInitRange}
 
 module _ (ranges : Option (TextureInitRange × TextureInitRange)) where
@@ -38,6 +38,14 @@ module _ (ranges : Option (TextureInitRange × TextureInitRange)) where
   numbers_with p = by (eqb p.left 0) refl
     where
       by : (t : Bool) → eqb p.left 0 ≡ t → region_numbers (Textures (textures_with ranges p)) ≡ region_numbers (Textures p)
+      by true e = rw e
+      by false e = rw (e, region_with p.parts p)
+
+  pub next_with : (p : TexturePlan) → next_numbers (Textures (textures_with ranges p)) ≡ next_numbers (Textures p)
+  unfolding next_numbers X.next_of stop_if
+  next_with p = by (eqb p.left 0) refl
+    where
+      by : (t : Bool) → eqb p.left 0 ≡ t → next_numbers (Textures (textures_with ranges p)) ≡ next_numbers (Textures p)
       by true e = rw e
       by false e = rw (e, region_with p.parts p)
 

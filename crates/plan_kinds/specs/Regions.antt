@@ -1,13 +1,13 @@
 -- The regions of a plan of any kind, as rows of numbers.
-use Rattle.std.specs.Prelude.{ℕ, zero, suc, List, [], ◌∷◌, Option, Some, None}
+use Rattle.std.specs.Prelude.{ℕ, zero, suc, List, [], ◌∷◌, Option, Some, None, option_map}
 use Rattle.plan_buffers.specs.Asking as K
 use Rattle.plan_buffer_texture.specs.Asking as L
 use Rattle.plan_textures.specs.declared.TexturePlan.{TexturePlan}
 use Rattle.plan_textures.specs.Asking as X
-use Rattle.plan_rows.specs.Rows.{row_of, buffer_copy_numbers, buffer_texture_copy_numbers, texture_copy_numbers}
+use Rattle.plan_rows.specs.Rows.{buffer_copy_numbers, buffer_texture_copy_numbers, texture_copy_numbers}
 use Rattle.plan_kinds.specs.declared.Plan.{Plan}
 use Rattle.plan_kinds.specs.declared.Plan.TheVariants.{Buffers, BufferTexture, Textures}
-use Rattle.plan_kinds.specs.declared.AskedRow.{AskedRow}
+use Rattle.plan_asked.specs.declared.Asked.{Asked}
 use Rattle.plan_buffer_texture.specs.declared.BufferTextureCopy.{BufferTextureCopy}
 use Rattle.plan_buffers.specs.declared.BufferCopy.{BufferCopy}
 use Rattle.plan_textures.specs.declared.TextureCopy.{TextureCopy}
@@ -55,8 +55,14 @@ behind_of (Buffers p) = Buffers (K.next_of p).plan
 behind_of (BufferTexture p) = BufferTexture (L.next_of p).plan
 behind_of (Textures p) = Textures (X.next_of p).plan
 
-unfoldable pub next_of : Plan → AskedRow
-next_of p = record { row = row_of (region_numbers p); plan = behind_of p }
+-- the same numbers where a region is left, else none
+unfoldable pub next_numbers : Plan → Option (List ℕ)
+next_numbers (Buffers p) = option_map buffer_copy_numbers (K.next_of p).answer
+next_numbers (BufferTexture p) = option_map buffer_texture_copy_numbers (L.next_of p).answer
+next_numbers (Textures p) = option_map texture_copy_numbers (X.next_of p).answer
+
+unfoldable pub next_of : Plan → Asked (List ℕ) Plan
+next_of p = record { answer = next_numbers p; plan = behind_of p }
 
 -- ---- the regions left, each by asking the plan that the one before handed back
 

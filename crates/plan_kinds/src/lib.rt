@@ -1,13 +1,14 @@
 #![tactic(auto)]
 // A plan of any kind: its next region as a row of numbers.
-ghost use Rattle.std.specs.Prelude.{◌≡◌, []};
-ghost use Rattle.plan_rows.specs.Rows.{row_of};
-ghost use Rattle.plan_kinds.specs.Regions.{left_of, checked_bytes_of, buffer_numbers, buffer_texture_numbers, texture_numbers, next_of};
+ghost use Rattle.std.specs.Prelude.{◌≡◌};
+ghost use Rattle.plan_kinds.specs.declared.Plan.{Plan};
+ghost use Rattle.plan_kinds.specs.Regions.{left_of, checked_bytes_of, next_numbers, behind_of, next_of};
 
-use plan_buffer_texture::{BufferTextureCopy, BufferTexturePlan};
-use plan_buffers::{BufferCopy, BufferPlan};
+use plan_asked::Asked;
+use plan_buffer_texture::BufferTexturePlan;
+use plan_buffers::BufferPlan;
 use plan_rows::Row;
-use plan_textures::{TextureCopy, TexturePlan};
+use plan_textures::TexturePlan;
 
 #[derive(Clone, Copy)]
 pub enum Plan {
@@ -16,89 +17,94 @@ pub enum Plan {
     Textures(TexturePlan),
 }
 
-// The next region as a row, of no numbers where none is left, and the plan after it.
-#[derive(Clone, Copy)]
-pub struct AskedRow {
-    pub row: Row,
-    pub plan: Plan,
+// A plan of one kind.
+pub trait Regions: Copy {
+    // The same as a plan of any kind.
+    ghost held: { Self → Plan };
+
+    fn as_plan(self) -> Plan
+        ensures { result ≡ held self };
+
+    fn regions_left(self) -> u32
+        ensures { result ≡ left_of (held self) };
+
+    // The next region as a row, none past the last, and the plan after it.
+    fn next_row(self) -> Asked<Row, Self>
+        ensures answer { result.answer ≡ next_numbers (held self) }
+        ensures behind { held result.plan ≡ behind_of (held self) };
 }
 
-#[tactic(auto, unfolding(plan_rows::specs::Rows::row_of))]
-fn no_row() -> Row
-    ensures { result ≡ row_of [] }
-{
-    Row {
-        count: 0,
-        values: [0u64; 15],
+impl Regions for BufferPlan {
+    ghost held = { λ p. Plan.Buffers p };
+
+    fn as_plan(self) -> Plan {
+        Plan::Buffers(self)
+    }
+
+    #[tactic(auto, unfolding(crate::specs::Regions::left_of))]
+    fn regions_left(self) -> u32 {
+        self.left
+    }
+
+    fn next_row(self) -> Asked<Row, BufferPlan> {
+        let asked = self.next();
+        Asked {
+            answer: asked.answer.map(Row::from),
+            plan: asked.plan,
+        }
     }
 }
 
-pub fn buffer_row(answer: Option<BufferCopy>) -> Row
-    ensures { result ≡ row_of (buffer_numbers answer) }
-{
-    match answer {
-        Some(region) => plan_rows::buffer_copy_row(region),
-        None => no_row(),
+impl Regions for BufferTexturePlan {
+    ghost held = { λ p. Plan.BufferTexture p };
+
+    fn as_plan(self) -> Plan {
+        Plan::BufferTexture(self)
+    }
+
+    #[tactic(auto, unfolding(crate::specs::Regions::left_of))]
+    fn regions_left(self) -> u32 {
+        self.left
+    }
+
+    fn next_row(self) -> Asked<Row, BufferTexturePlan> {
+        let asked = self.next();
+        Asked {
+            answer: asked.answer.map(Row::from),
+            plan: asked.plan,
+        }
     }
 }
 
-pub fn buffer_texture_row(answer: Option<BufferTextureCopy>) -> Row
-    ensures { result ≡ row_of (buffer_texture_numbers answer) }
-{
-    match answer {
-        Some(region) => plan_rows::buffer_texture_copy_row(region),
-        None => no_row(),
+impl Regions for TexturePlan {
+    ghost held = { λ p. Plan.Textures p };
+
+    fn as_plan(self) -> Plan {
+        Plan::Textures(self)
+    }
+
+    #[tactic(auto, unfolding(crate::specs::Regions::left_of))]
+    fn regions_left(self) -> u32 {
+        self.left
+    }
+
+    fn next_row(self) -> Asked<Row, TexturePlan> {
+        let asked = self.next();
+        Asked {
+            answer: asked.answer.map(Row::from),
+            plan: asked.plan,
+        }
     }
 }
 
-pub fn texture_row(answer: Option<TextureCopy>) -> Row
-    ensures { result ≡ row_of (texture_numbers answer) }
+#[tactic(auto, unfolding(crate::specs::Regions::next_of))]
+fn next_as_plan<P: Regions>(plan: P) -> Asked<Row, Plan>
+    ensures { result ≡ next_of (P.held plan) }
 {
-    match answer {
-        Some(region) => plan_rows::texture_copy_row(region),
-        None => no_row(),
-    }
-}
-
-#[tactic(auto, unfolding(crate::specs::Regions::next_of, crate::specs::Regions::region_numbers, crate::specs::Regions::behind_of))]
-fn next_buffers(p: BufferPlan) -> AskedRow
-    ensures { result ≡ next_of (Plan.Buffers p) }
-{
-    let asked = p.next();
-    let answer = asked.answer;
-    let plan = asked.plan;
-    let row = buffer_row(answer);
-    AskedRow {
-        row,
-        plan: Plan::Buffers(plan),
-    }
-}
-
-#[tactic(auto, unfolding(crate::specs::Regions::next_of, crate::specs::Regions::region_numbers, crate::specs::Regions::behind_of))]
-fn next_buffer_texture(p: BufferTexturePlan) -> AskedRow
-    ensures { result ≡ next_of (Plan.BufferTexture p) }
-{
-    let asked = p.next();
-    let answer = asked.answer;
-    let plan = asked.plan;
-    let row = buffer_texture_row(answer);
-    AskedRow {
-        row,
-        plan: Plan::BufferTexture(plan),
-    }
-}
-
-#[tactic(auto, unfolding(crate::specs::Regions::next_of, crate::specs::Regions::region_numbers, crate::specs::Regions::behind_of))]
-fn next_textures(p: TexturePlan) -> AskedRow
-    ensures { result ≡ next_of (Plan.Textures p) }
-{
-    let asked = p.next();
-    let answer = asked.answer;
-    let plan = asked.plan;
-    let row = texture_row(answer);
-    AskedRow {
-        row,
-        plan: Plan::Textures(plan),
+    let asked = plan.next_row();
+    Asked {
+        answer: asked.answer,
+        plan: asked.plan.as_plan(),
     }
 }
 
@@ -125,14 +131,14 @@ impl Plan {
         }
     }
 
-    // The next region as a row, and the plan after it; past the last a row of no numbers, and the plan as it is.
-    pub fn next(self) -> AskedRow
+    // The next region as a row, and the plan after it; past the last none, and the plan as it is.
+    pub fn next(self) -> Asked<Row, Plan>
         ensures { result ≡ next_of self }
     {
         match self {
-            Plan::Buffers(p) => next_buffers(p),
-            Plan::BufferTexture(p) => next_buffer_texture(p),
-            Plan::Textures(p) => next_textures(p),
+            Plan::Buffers(p) => next_as_plan(p),
+            Plan::BufferTexture(p) => next_as_plan(p),
+            Plan::Textures(p) => next_as_plan(p),
         }
     }
 }

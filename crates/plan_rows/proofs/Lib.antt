@@ -1,1 +1,1 @@
-pub mod Fronts
+pub mod Absent

@@ -1,6 +1,5 @@
 -- Regions, ranges and refusals as numbers: 3, 12 or 15 for a region, 5 or 4 for a range, 6 for a refusal.
-use Rattle.std.specs.Prelude.{ℕ, ◌-◌, ◌^◌, List, [], ◌∷◌, ◌++◌, length, replicate, Option, Some, None}
-use Rattle.std.proofs.lemmas.List.Edits.{sets}
+use Rattle.std.specs.Prelude.{ℕ, ◌-◌, ◌^◌, List, [], ◌∷◌, ◌++◌, Option, Some, None}
 use Rattle.refusals.specs.declared.TransferError.{TransferError}
 use Rattle.refusals.specs.Numbers.{numbers_of}
 use Rattle.rule_copy_range.specs.declared.CopyExtent.{CopyExtent}
@@ -11,7 +10,6 @@ use Rattle.rule_init_ranges.specs.Init.{kind_number}
 use Rattle.plan_buffers.specs.declared.BufferCopy.{BufferCopy}
 use Rattle.plan_buffer_texture.specs.declared.BufferTextureCopy.{BufferTextureCopy}
 use Rattle.plan_textures.specs.declared.TextureCopy.{TextureCopy}
-use Rattle.plan_rows.specs.declared.Row.{Row}
 
 -- ---- regions
 
@@ -55,8 +53,3 @@ buffer_range_numbers buffer r = buffer ∷ r.start ∷ r.end ∷ kind_number r.k
 unfoldable pub refusal_numbers : TransferError → List ℕ
 refusal_numbers why =
     (numbers_of why).number ∷ (numbers_of why).side ∷ (numbers_of why).dimension ∷ (numbers_of why).start ∷ (numbers_of why).end ∷ (numbers_of why).limit ∷ []
-
--- ---- a row that holds numbers, and zeros after them
-
-unfoldable pub row_of : List ℕ → Row
-row_of ns = record { count = length ns; values = sets (replicate 15 0) 0 ns }

@@ -1,131 +1,153 @@
 #![tactic(auto)]
 // Regions, ranges and refusals as rows of numbers, as the listing and the lent slice have them.
 ghost use Rattle.std.specs.Prelude.{◌≡◌};
-ghost use Rattle.plan_rows.specs.Rows.{or_absent, row_of, buffer_copy_numbers, buffer_texture_copy_numbers, texture_copy_numbers, texture_range_numbers, buffer_range_numbers, refusal_numbers};
+ghost use Rattle.plan_rows.specs.Rows.{or_absent, buffer_copy_numbers, buffer_texture_copy_numbers, texture_copy_numbers, texture_range_numbers, buffer_range_numbers, refusal_numbers};
 
 use plan_buffer_texture::BufferTextureCopy;
 use plan_buffers::BufferCopy;
 use plan_textures::TextureCopy;
 use refusals::{Refusal, TransferError};
 use rule_init_ranges::{BufferInitRange, TextureInitRange};
+use std::marker::Model;
 
 // What stands for an absent value.
-const ABSENT: u64 = 18446744073709551615;
+pub const ABSENT: u64 = u64::MAX;
 
-// So many numbers, and zeros after them.
-#[derive(Clone, Copy)]
+// At most fifteen numbers. Contracts see their list.
+#[derive(Drop)]
 pub struct Row {
-    pub count: usize,
-    pub values: [u64; 15],
+    count: usize,
+    values: [u64; 15],
+}
+
+impl Model for Row {
+    ghost use Rattle.std.specs.Prelude.{ℕ, ◌≤◌, List, take};
+
+    ghost Value = { List ℕ };
+
+    ghost view = { λ r. take r.count r.values };
+
+    ghost invariant = { λ r. r.count ≤ 15 };
+}
+
+impl Row {
+    pub fn as_slice(&self) -> &[u64]
+        ensures { result.now ≡ self.now }
+    {
+        &self.values[..self.count]
+    }
 }
 
 // A value, or what stands for an absent one.
-#[tactic(auto, unfolding(crate::specs::Rows::or_absent))]
+#[tactic(auto, using(crate::proofs::Absent::or_last))]
 pub fn or_absent(value: Option<u32>) -> u64
     ensures { result ≡ or_absent value }
 {
-    match value {
-        Some(n) => n as u64,
-        None => ABSENT,
+    measures::or_else(value, ABSENT)
+}
+
+impl From<BufferCopy> for Row {
+    ghost from_gives = { λ r row. row ≡ buffer_copy_numbers r };
+
+    #[tactic(auto, unfolding(crate::specs::Rows::buffer_copy_numbers))]
+    fn from(r: BufferCopy) -> Row {
+        Row {
+            count: 3,
+            values: [
+                r.src_offset,
+                r.dst_offset,
+                r.size,
+                0,
+                0,
+                0,
+                0,
+                0,
+                0,
+                0,
+                0,
+                0,
+                0,
+                0,
+                0,
+            ],
+        }
     }
 }
 
-#[tactic(auto, unfolding(crate::specs::Rows::row_of, crate::specs::Rows::buffer_copy_numbers))]
-pub fn buffer_copy_row(r: BufferCopy) -> Row
-    ensures { result ≡ row_of (buffer_copy_numbers r) }
-{
-    Row {
-        count: 3,
-        values: [
-            r.src_offset,
-            r.dst_offset,
-            r.size,
-            0,
-            0,
-            0,
-            0,
-            0,
-            0,
-            0,
-            0,
-            0,
-            0,
-            0,
-            0,
-        ],
+impl From<BufferTextureCopy> for Row {
+    ghost from_gives = { λ r row. row ≡ buffer_texture_copy_numbers r };
+
+    #[tactic(auto, unfolding(crate::specs::Rows::buffer_texture_copy_numbers))]
+    fn from(r: BufferTextureCopy) -> Row {
+        let bytes_per_row = r.bytes_per_row;
+        let rows_per_image = r.rows_per_image;
+        let base = r.base;
+        let origin = base.origin;
+        let aspect = base.aspect;
+        let size = r.size;
+        let bytes = or_absent(bytes_per_row);
+        let rows = or_absent(rows_per_image);
+        Row {
+            count: 12,
+            values: [
+                r.offset,
+                bytes,
+                rows,
+                base.mip_level as u64,
+                base.array_layer as u64,
+                origin.x.0 as u64,
+                origin.y.0 as u64,
+                origin.z as u64,
+                aspect.0 as u64,
+                size.width.0 as u64,
+                size.height.0 as u64,
+                size.depth as u64,
+                0,
+                0,
+                0,
+            ],
+        }
     }
 }
 
-#[tactic(auto, unfolding(crate::specs::Rows::row_of, crate::specs::Rows::buffer_texture_copy_numbers))]
-pub fn buffer_texture_copy_row(r: BufferTextureCopy) -> Row
-    ensures { result ≡ row_of (buffer_texture_copy_numbers r) }
-{
-    let bytes_per_row = r.bytes_per_row;
-    let rows_per_image = r.rows_per_image;
-    let base = r.base;
-    let origin = base.origin;
-    let aspect = base.aspect;
-    let size = r.size;
-    let bytes = or_absent(bytes_per_row);
-    let rows = or_absent(rows_per_image);
-    Row {
-        count: 12,
-        values: [
-            r.offset,
-            bytes,
-            rows,
-            base.mip_level as u64,
-            base.array_layer as u64,
-            origin.x.0 as u64,
-            origin.y.0 as u64,
-            origin.z as u64,
-            aspect.0 as u64,
-            size.width.0 as u64,
-            size.height.0 as u64,
-            size.depth as u64,
-            0,
-            0,
-            0,
-        ],
+impl From<TextureCopy> for Row {
+    ghost from_gives = { λ r row. row ≡ texture_copy_numbers r };
+
+    #[tactic(auto, unfolding(crate::specs::Rows::texture_copy_numbers))]
+    fn from(r: TextureCopy) -> Row {
+        let src = r.src;
+        let dst = r.dst;
+        let size = r.size;
+        let src_origin = src.origin;
+        let src_aspect = src.aspect;
+        let dst_origin = dst.origin;
+        let dst_aspect = dst.aspect;
+        Row {
+            count: 15,
+            values: [
+                src.mip_level as u64,
+                src.array_layer as u64,
+                src_origin.x.0 as u64,
+                src_origin.y.0 as u64,
+                src_origin.z as u64,
+                src_aspect.0 as u64,
+                dst.mip_level as u64,
+                dst.array_layer as u64,
+                dst_origin.x.0 as u64,
+                dst_origin.y.0 as u64,
+                dst_origin.z as u64,
+                dst_aspect.0 as u64,
+                size.width.0 as u64,
+                size.height.0 as u64,
+                size.depth as u64,
+            ],
+        }
     }
 }
 
-#[tactic(auto, unfolding(crate::specs::Rows::row_of, crate::specs::Rows::texture_copy_numbers))]
-pub fn texture_copy_row(r: TextureCopy) -> Row
-    ensures { result ≡ row_of (texture_copy_numbers r) }
-{
-    let src = r.src;
-    let dst = r.dst;
-    let size = r.size;
-    let src_origin = src.origin;
-    let src_aspect = src.aspect;
-    let dst_origin = dst.origin;
-    let dst_aspect = dst.aspect;
-    Row {
-        count: 15,
-        values: [
-            src.mip_level as u64,
-            src.array_layer as u64,
-            src_origin.x.0 as u64,
-            src_origin.y.0 as u64,
-            src_origin.z as u64,
-            src_aspect.0 as u64,
-            dst.mip_level as u64,
-            dst.array_layer as u64,
-            dst_origin.x.0 as u64,
-            dst_origin.y.0 as u64,
-            dst_origin.z as u64,
-            dst_aspect.0 as u64,
-            size.width.0 as u64,
-            size.height.0 as u64,
-            size.depth as u64,
-        ],
-    }
-}
-
-#[tactic(auto, unfolding(crate::specs::Rows::row_of, crate::specs::Rows::texture_range_numbers))]
+#[tactic(auto, unfolding(crate::specs::Rows::texture_range_numbers))]
 pub fn texture_range_row(texture: u32, r: TextureInitRange) -> Row
-    ensures { result ≡ row_of (texture_range_numbers texture r) }
+    ensures { result ≡ texture_range_numbers texture r }
 {
     let layers = r.layers;
     let kind = r.kind;
@@ -152,9 +174,9 @@ pub fn texture_range_row(texture: u32, r: TextureInitRange) -> Row
     }
 }
 
-#[tactic(auto, unfolding(crate::specs::Rows::row_of, crate::specs::Rows::buffer_range_numbers))]
+#[tactic(auto, unfolding(crate::specs::Rows::buffer_range_numbers))]
 pub fn buffer_range_row(buffer: u32, r: BufferInitRange) -> Row
-    ensures { result ≡ row_of (buffer_range_numbers buffer r) }
+    ensures { result ≡ buffer_range_numbers buffer r }
 {
     let kind = r.kind;
     let number = u32::from(kind);
@@ -180,29 +202,31 @@ pub fn buffer_range_row(buffer: u32, r: BufferInitRange) -> Row
     }
 }
 
-#[tactic(auto, unfolding(crate::specs::Rows::row_of, crate::specs::Rows::refusal_numbers))]
-pub fn refusal_row(why: TransferError) -> Row
-    ensures { result ≡ row_of (refusal_numbers why) }
-{
-    let n = Refusal::from(why);
-    Row {
-        count: 6,
-        values: [
-            n.number as u64,
-            n.side as u64,
-            n.dimension as u64,
-            n.start,
-            n.end,
-            n.limit,
-            0,
-            0,
-            0,
-            0,
-            0,
-            0,
-            0,
-            0,
-            0,
-        ],
+impl From<TransferError> for Row {
+    ghost from_gives = { λ why row. row ≡ refusal_numbers why };
+
+    #[tactic(auto, unfolding(crate::specs::Rows::refusal_numbers))]
+    fn from(why: TransferError) -> Row {
+        let n = Refusal::from(why);
+        Row {
+            count: 6,
+            values: [
+                n.number as u64,
+                n.side as u64,
+                n.dimension as u64,
+                n.start,
+                n.end,
+                n.limit,
+                0,
+                0,
+                0,
+                0,
+                0,
+                0,
+                0,
+                0,
+                0,
+            ],
+        }
     }
 }

@@ -10,7 +10,7 @@ use Rattle.plan_textures.specs.declared.CopyParts.{CopyParts}
 use Rattle.plan_textures.specs.declared.CopyParts.TheVariants.{Whole, DepthStencil, Planes}
 use Rattle.plan_textures.specs.declared.TextureCopy.{TextureCopy}
 use Rattle.plan_textures.specs.declared.TexturePlan.{TexturePlan}
-use Rattle.plan_textures.specs.declared.AskedTexture.{AskedTexture}
+use Rattle.plan_asked.specs.declared.Asked.{Asked}
 
 -- a base with other aspects, and with x and y divided
 unfoldable pub base_as : TextureCopyBase → ℕ → ℕ → TextureCopyBase
@@ -52,7 +52,7 @@ advanced DepthStencil p = pick (eqb p.part 0) (other_part p) (other_layer p)
 advanced Planes p = pick (eqb p.part 0) (other_part p) (other_layer p)
 
 -- none left, and the plan unchanged; else its region beside the advanced plan
-unfoldable pub next_of : TexturePlan → AskedTexture
+unfoldable pub next_of : TexturePlan → Asked TextureCopy TexturePlan
 next_of p =
     stop_if (eqb p.left 0) (record { answer = None; plan = p }) $
     record { answer = Some (region_of p.parts p); plan = advanced p.parts p }

@@ -1,19 +1,52 @@
 #![tactic(auto)]
 // The plan of a copy between textures, asked for its regions one by one.
-ghost use Rattle.std.specs.Prelude.{◌≡◌, ◌*◌, ◌/◌, ◌<◌, ◌≤◌, ◌^◌, min, eqb};
+ghost use Rattle.std.specs.Prelude.{◌≡◌, ◌*◌, ◌-◌, ◌/◌, ◌<◌, ◌≤◌, ◌^◌, min, eqb};
 ghost use Rattle.conditions.specs.Conditions.{pick};
 ghost use Rattle.flags.specs.FormatAspects.{DEPTH, STENCIL, PLANE_0, PLANE_1};
 ghost use Rattle.measures.specs.Measure.{is_empty};
 ghost use Rattle.rule_init_ranges.specs.Init.{src_texture_range, dst_texture_range};
 ghost use Rattle.plan_textures.specs.Plan.{lesser, parts_of, part_count, ranges_of, plan_of};
+ghost use Rattle.plan_textures.specs.Numbers.{parts_number, parts_from};
 ghost use Rattle.plan_textures.specs.Asking.{base_as, size_by, region_as, region_of, other_part, other_layer, advanced, next_of};
 
 use flags::FormatAspects;
 use measures::{Extent3d, Origin3d};
+use plan_asked::Asked;
 use records::TextureSide;
 use rule_copy_range::CopyExtent;
 use rule_init_ranges::TextureInitRange;
 use rule_selectors::TextureCopyBase;
+use std::marker::Model;
+
+// By what the sides of a part are divided: at least 1. Contracts see its number.
+#[derive(Clone, Copy)]
+struct Factor {
+    number: u32,
+}
+
+impl Model for Factor {
+    ghost use Rattle.std.specs.Prelude.{ℕ, ◌<◌};
+    ghost use Rattle.std.specs.Coded.{coded_ℕ};
+
+    ghost Value = { ℕ };
+
+    ghost coded = { coded_ℕ };
+
+    ghost view = { λ f. f.number };
+
+    ghost invariant = { λ f. 0 < f.number };
+
+    ghost inverse = { λ n. record { number = n } };
+}
+
+impl Factor {
+    fn number(self) -> u32
+        ensures value { result ≡ self }
+        ensures some { 0 < result }
+    {
+        self.number
+    }
+}
 
 // What a layer is copied as.
 #[derive(Clone, Copy)]
@@ -21,6 +54,33 @@ pub enum CopyParts {
     Whole,
     DepthStencil,
     Planes,
+}
+
+impl From<CopyParts> for u64 {
+    ghost from_gives = { λ parts n. n ≡ parts_number parts };
+
+    #[tactic(auto, unfolding(crate::specs::Numbers::parts_number))]
+    fn from(parts: CopyParts) -> u64 {
+        match parts {
+            CopyParts::Whole => 0,
+            CopyParts::DepthStencil => 1,
+            CopyParts::Planes => 2,
+        }
+    }
+}
+
+// Any number is taken: those past 2 count as 2.
+impl From<u64> for CopyParts {
+    ghost from_gives = { λ n parts. parts ≡ parts_from n };
+
+    #[tactic(auto, unfolding(crate::specs::Numbers::parts_from))]
+    fn from(n: u64) -> CopyParts {
+        match n {
+            0 => CopyParts::Whole,
+            1 => CopyParts::DepthStencil,
+            _ => CopyParts::Planes,
+        }
+    }
 }
 
 // A region: what the encoder is handed.
@@ -42,12 +102,6 @@ pub struct TexturePlan {
     pub part: u32,
     pub left: u32,
     pub parts: CopyParts,
-}
-
-#[derive(Clone, Copy)]
-pub struct AskedTexture {
-    pub answer: Option<TextureCopy>,
-    pub plan: TexturePlan,
 }
 
 #[tactic(auto, unfolding(crate::specs::Plan::lesser))]
@@ -73,14 +127,14 @@ fn parts_of(format: u32) -> CopyParts
     CopyParts::Whole
 }
 
+#[tactic(auto, unfolding(crate::specs::Plan::part_count))]
 fn part_count(parts: CopyParts) -> u32
     ensures value { result ≡ part_count parts }
     ensures few { result ≤ 2 }
 {
     match parts {
         CopyParts::Whole => 1,
-        CopyParts::DepthStencil => 2,
-        CopyParts::Planes => 2,
+        CopyParts::DepthStencil | CopyParts::Planes => 2,
     }
 }
 
@@ -95,20 +149,6 @@ fn region_count(empty: bool, layers: u32, parts: CopyParts) -> u32
     layers * count
 }
 
-#[tactic(auto, unfolding(crate::specs::Plan::ranges_of))]
-fn ranges_of(
-    empty: bool,
-    src: TextureInitRange,
-    dst: TextureInitRange,
-) -> Option<(TextureInitRange, TextureInitRange)>
-    ensures { result ≡ ranges_of empty src dst }
-{
-    if empty {
-        return None;
-    }
-    Some((src, dst))
-}
-
 fn texture_ranges(
     src: TextureSide,
     dst: TextureSide,
@@ -116,11 +156,10 @@ fn texture_ranges(
 ) -> Option<(TextureInitRange, TextureInitRange)>
     ensures { result ≡ ranges_of (is_empty size) (src_texture_range src.view src.texture size) (dst_texture_range dst.view dst.texture size) }
 {
-    ranges_of(
-        measures::is_empty(size),
-        rule_init_ranges::src_texture_range(src.view, src.texture, size),
-        rule_init_ranges::dst_texture_range(dst.view, dst.texture, size),
-    )
+    (!measures::is_empty(size)).then_some((
+        rule_init_ranges::src_texture_range(src, size),
+        rule_init_ranges::dst_texture_range(dst, size),
+    ))
 }
 
 // The plan of a copy that has passed its checks.
@@ -153,15 +192,14 @@ pub fn plan_of(
 }
 
 #[tactic(auto, unfolding(crate::specs::Asking::base_as))]
-fn base_as(b: TextureCopyBase, aspects: u32, factor: u32) -> TextureCopyBase
-    requires { 0 < factor }
+fn base_as(b: TextureCopyBase, aspects: u32, factor: Factor) -> TextureCopyBase
     ensures { result ≡ base_as b aspects factor }
 {
     let origin = b.origin;
     TextureCopyBase {
         origin: Origin3d {
-            x: origin.x.divided_by(factor),
-            y: origin.y.divided_by(factor),
+            x: origin.x.divided_by(factor.number()),
+            y: origin.y.divided_by(factor.number()),
             z: origin.z,
         },
         aspect: FormatAspects(aspects),
@@ -170,21 +208,19 @@ fn base_as(b: TextureCopyBase, aspects: u32, factor: u32) -> TextureCopyBase
 }
 
 #[tactic(auto, unfolding(crate::specs::Asking::size_by))]
-fn size_by(e: CopyExtent, factor: u32) -> CopyExtent
-    requires { 0 < factor }
+fn size_by(e: CopyExtent, factor: Factor) -> CopyExtent
     ensures { result ≡ size_by e factor }
 {
     CopyExtent {
-        width: e.width.divided_by(factor),
-        height: e.height.divided_by(factor),
+        width: e.width.divided_by(factor.number()),
+        height: e.height.divided_by(factor.number()),
         depth: e.depth,
     }
 }
 
 impl TexturePlan {
     #[tactic(auto, unfolding(crate::specs::Asking::region_as))]
-    fn region_as(self, aspects: u32, factor: u32) -> TextureCopy
-        requires { 0 < factor }
+    fn region_as(self, aspects: u32, factor: Factor) -> TextureCopy
         ensures { result ≡ region_as self aspects factor }
     {
         TextureCopy {
@@ -204,12 +240,11 @@ impl TexturePlan {
         }
     }
 
-    fn part_as(self, first: u32, second: u32, factor: u32) -> TextureCopy
-        requires { 0 < factor }
+    fn part_as(self, first: u32, second: u32, factor: Factor) -> TextureCopy
         ensures { result ≡ pick (eqb self.part 0) (region_as self first 1) (region_as self second factor) }
     {
         if self.part == 0 {
-            return self.region_as(first, 1);
+            return self.region_as(first, Factor { number: 1 });
         }
         self.region_as(second, factor)
     }
@@ -217,13 +252,15 @@ impl TexturePlan {
     fn depth_or_stencil(self) -> TextureCopy
         ensures { result ≡ pick (eqb self.part 0) (region_as self DEPTH 1) (region_as self STENCIL 1) }
     {
-        self.part_as(FormatAspects::DEPTH.0, FormatAspects::STENCIL.0, 1)
+        let whole = Factor { number: 1 };
+        self.part_as(FormatAspects::DEPTH.0, FormatAspects::STENCIL.0, whole)
     }
 
     fn plane(self) -> TextureCopy
         ensures { result ≡ pick (eqb self.part 0) (region_as self PLANE_0 1) (region_as self PLANE_1 2) }
     {
-        self.part_as(FormatAspects::PLANE_0.0, FormatAspects::PLANE_1.0, 2)
+        let half = Factor { number: 2 };
+        self.part_as(FormatAspects::PLANE_0.0, FormatAspects::PLANE_1.0, half)
     }
 
     fn region_of(self, parts: CopyParts) -> TextureCopy
@@ -236,67 +273,66 @@ impl TexturePlan {
         }
     }
 
+    // With so many left: the other part of the layer.
     #[tactic(auto, unfolding(crate::specs::Asking::other_part))]
-    fn other_part(self) -> TexturePlan
-        requires { 0 < self.left }
-        ensures { result ≡ other_part self }
+    fn other_part(self, left: u32) -> TexturePlan
+        ensures { left ≡ self.left - 1 → result ≡ other_part self }
     {
         TexturePlan {
             part: 1,
-            left: self.left - 1,
+            left,
             ..self
         }
     }
 
+    // The first part of the next layer.
     #[tactic(auto, unfolding(crate::specs::Asking::other_layer))]
-    fn other_layer(self) -> TexturePlan
-        requires { 0 < self.left }
-        ensures { result ≡ other_layer self }
+    fn other_layer(self, left: u32) -> TexturePlan
+        ensures { left ≡ self.left - 1 → result ≡ other_layer self }
     {
         TexturePlan {
             src: rule_selectors::next_layer(self.src),
             dst: rule_selectors::next_layer(self.dst),
             part: 0,
-            left: self.left - 1,
+            left,
             ..self
         }
     }
 
-    fn next_part(self) -> TexturePlan
-        requires { 0 < self.left }
-        ensures { result ≡ pick (eqb self.part 0) (other_part self) (other_layer self) }
+    fn next_part(self, left: u32) -> TexturePlan
+        ensures { left ≡ self.left - 1 → result ≡ pick (eqb self.part 0) (other_part self) (other_layer self) }
     {
         if self.part == 0 {
-            return self.other_part();
+            return self.other_part(left);
         }
-        self.other_layer()
+        self.other_layer(left)
     }
 
+    // One region on, with so many left.
     #[tactic(auto, unfolding(crate::specs::Asking::advanced))]
-    fn advance(self, parts: CopyParts) -> TexturePlan
-        requires { 0 < self.left }
-        ensures { result ≡ advanced parts self }
+    fn advance(self, parts: CopyParts, left: u32) -> TexturePlan
+        ensures { left ≡ self.left - 1 → result ≡ advanced parts self }
     {
         match parts {
-            CopyParts::Whole => self.other_layer(),
-            CopyParts::DepthStencil => self.next_part(),
-            CopyParts::Planes => self.next_part(),
+            CopyParts::Whole => self.other_layer(left),
+            CopyParts::DepthStencil => self.next_part(left),
+            CopyParts::Planes => self.next_part(left),
         }
     }
 
     // The next region and the plan after it; past the last none, and the plan as it is.
-    pub fn next(self) -> AskedTexture
+    pub fn next(self) -> Asked<TextureCopy, TexturePlan>
         ensures { result ≡ next_of self }
     {
-        if self.left == 0 {
-            return AskedTexture {
+        match self.left.checked_sub(1) {
+            Some(left) => Asked {
+                answer: Some(self.region_of(self.parts)),
+                plan: self.advance(self.parts, left),
+            },
+            None => Asked {
                 answer: None,
                 plan: self,
-            };
-        }
-        AskedTexture {
-            answer: Some(self.region_of(self.parts)),
-            plan: self.advance(self.parts),
+            },
         }
     }
 }

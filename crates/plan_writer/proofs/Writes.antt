@@ -1,5 +1,5 @@
 -- Laws of the regions that are written. Assumes nothing.
-use Rattle.std.specs.Prelude.{Option, None}
+use Rattle.std.specs.Prelude.{Option, None, unwrap_or}
 use mathlib.Core.Path.{◌≡◌, refl, sym, ap, ◌∙◌}
 use mathlib.Core.Bool.{true}
 use mathlib.Core.List.{List, [], ◌++◌}
@@ -7,24 +7,22 @@ use Prim.Native.Nat.{ℕ, zero, suc, ◌+◌, ◌-◌, ◌*◌, ◌^◌, ◌≤�
 use native.Mathlib.Omega.{arith}
 use native.Mathlib.Nat.{suc-mul, add_comm, mul-le-mul_left}
 use borrow.Author.Tests.{ne_eqb, leb-true}
-use lib.ListN.{length, take, get_or, get_or-append}
+use lib.ListN.{length, get_or, get_or-append}
 use lib.Seq.{sets, get_or-append-add}
 use Rattle.conditions.specs.Conditions.{stop_if}
 use Rattle.slices.specs.Put.{Put}
 use Rattle.slices.proofs.Puts.{sets_append, put_as, put_length}
-use Rattle.plan_rows.specs.Rows.{row_of, buffer_copy_numbers, buffer_texture_copy_numbers, texture_copy_numbers}
-use Rattle.plan_rows.specs.declared.Row.{Row}
+use Rattle.plan_rows.specs.Rows.{buffer_copy_numbers, buffer_texture_copy_numbers, texture_copy_numbers}
 use Rattle.plan_buffers.specs.Asking as K
 use Rattle.plan_buffer_texture.specs.Asking as L
-use Rattle.plan_textures.specs.declared.AskedTexture.{AskedTexture}
 use Rattle.plan_textures.specs.declared.TexturePlan.{TexturePlan}
 use Rattle.plan_textures.specs.Asking as X
-use Rattle.plan_rows.proofs.Fronts.{row_count, row_numbers, row_inside}
 use Rattle.plan_kinds.specs.declared.Plan.{Plan}
 use Rattle.plan_kinds.specs.declared.Plan.TheVariants.{Buffers, BufferTexture, Textures}
-use Rattle.plan_kinds.specs.Regions.{left_of, fields_of, buffer_numbers, buffer_texture_numbers, texture_numbers, region_numbers, behind_of, textures_with}
+use Rattle.plan_kinds.specs.Regions.{left_of, fields_of, buffer_numbers, buffer_texture_numbers, texture_numbers, region_numbers, next_numbers, behind_of, textures_with}
 use Rattle.plan_kinds.proofs.Behind.{behind_left}
-use Rattle.plan_kinds.proofs.Ranges.{numbers_with, behind_with}
+use Rattle.plan_kinds.proofs.Numbers.{numbers_or_none}
+use Rattle.plan_kinds.proofs.Ranges.{numbers_with, next_with, behind_with}
 use Rattle.plan_writer.specs.Writing.{numbers_from, numbers_left, behind_all, fits, EveryEntry}
 use Rattle.rule_init_ranges.specs.declared.TextureInitRange.{TextureInitRange}
 
@@ -63,27 +61,24 @@ module _ (l₀ l : List ℕ) (p₀ p : Plan) (at : ℕ) where
     pub slots : sets l at (numbers_left p) ≡ sets l₀ 0 (numbers_left p₀)
 
 module _ {l₀ l : List ℕ} {p₀ p : Plan} {at : ℕ} (u : Underway l₀ l p₀ p at) (h : 0 < left_of p) where
-  pub region_few : length (region_numbers p) ≤ 15
-  region_few = omega (arith, numbers_count p h, fields_few p)
-
   one_of : left_of p * fields_of p ≡ fields_of p + (left_of p - 1) * fields_of p
   one_of = let e : left_of p ≡ suc (left_of p - 1) = omega arith in ap (λ (n : ℕ). n * fields_of p) e ∙ suc-mul (left_of p - 1) (fields_of p) ∙ add_comm ((left_of p - 1) * fields_of p) (fields_of p)
 
   pub fewer : {next : Plan} → next ≡ behind_of p → left_of next < left_of p
   fewer e = rw e (omega (arith, behind_left p h))
 
-  -- the row that was asked for holds the region's numbers
-  module _ (row : Row) (is : row ≡ row_of (region_numbers p)) where
-    pub row_held : row.count ≤ length row.values
-    row_held = row_inside (region_numbers p) region_few row is
+  -- the answer holds the region's numbers
+  module _ (answer : Option (List ℕ)) (is : answer ≡ next_numbers p) where
+    numbers : unwrap_or answer [] ≡ region_numbers p
+    numbers = ap (λ (o : Option (List ℕ)). unwrap_or o []) is ∙ numbers_or_none p
 
-    pub row_room : at + row.count ≤ length l
-    row_room = omega (arith, row_count (region_numbers p) region_few row is, numbers_count p h, one_of, u.room)
+    pub answer_room : at + length (unwrap_or answer []) ≤ length l
+    answer_room = rw numbers (omega (arith, numbers_count p h, one_of, u.room))
 
-    pub again : (m : List ℕ) (next : Plan) (r : ℕ) → next ≡ behind_of p → Put l m at (take row.count row.values) r → Underway l₀ m p₀ next r
+    pub again : (m : List ℕ) (next : Plan) (r : ℕ) → next ≡ behind_of p → Put l m at (unwrap_or answer []) r → Underway l₀ m p₀ next r
     unfolding numbers_left numbers_from behind_all
     again m next r on put =
-        let o : Put l m at (region_numbers p) r = put_as put (row_numbers (region_numbers p) region_few row is) in
+        let o : Put l m at (region_numbers p) r = put_as put numbers in
         let less : left_of (behind_of p) ≡ left_of p - 1 = behind_left p h in
         let n : left_of p ≡ suc (left_of (behind_of p)) = omega (arith, less) in
         let b : behind_all (left_of p) p ≡ behind_all (left_of (behind_of p)) (behind_of p) = ap (λ (k : ℕ). behind_all k p) n in
@@ -103,18 +98,6 @@ ended {l = l} {p = p} {at = at} u h =
     let b : behind_all (left_of p) p ≡ p = ap (λ (k : ℕ). behind_all k p) z in
     let f : numbers_left p ≡ [] = ap (λ (k : ℕ). numbers_from k p) z in
     (sym b ∙ u.plan, sym (ap (λ (ns : List ℕ). sets l at ns) f) ∙ u.slots)
-
--- the loop that leaves the ranges out, seen with them
-module _ (ranges : Option (TextureInitRange × TextureInitRange)) (p : TexturePlan) (asked : AskedTexture) (is : asked ≡ X.next_of p) where
-  pub row_with : (row : Row) → row ≡ row_of (texture_numbers asked.answer) → row ≡ row_of (region_numbers (Textures (textures_with ranges p)))
-  unfolding region_numbers
-  row_with row e = e ∙ ap (λ (a : AskedTexture). row_of (texture_numbers a.answer)) is ∙ sym (ap row_of (numbers_with ranges p))
-
-  pub next_with : (q : TexturePlan) → q ≡ textures_with None asked.plan → Textures (textures_with ranges q) ≡ behind_of (Textures (textures_with ranges p))
-  next_with q e =
-      ap (λ (n : TexturePlan). Textures (textures_with ranges n)) e
-      ∙ ap (λ (a : AskedTexture). Textures (textures_with ranges a.plan)) is
-      ∙ sym (behind_with ranges p)
 
 -- all regions of a plan between textures, and the plan after them, whatever the ranges
 textures_behind : ℕ → TexturePlan → TexturePlan
@@ -137,6 +120,15 @@ with_ranges : Option (TextureInitRange × TextureInitRange) → Plan → Plan
 with_ranges ranges (Buffers p) = Buffers p
 with_ranges ranges (BufferTexture p) = BufferTexture p
 with_ranges ranges (Textures p) = Textures (textures_with ranges p)
+
+-- the loop that leaves them out, seen with any
+module _ (ranges : Option (TextureInitRange × TextureInitRange)) (p : TexturePlan) where
+  pub answer_with : (answer : Option (List ℕ)) → answer ≡ next_numbers (Textures p) → answer ≡ next_numbers (Textures (textures_with ranges p))
+  answer_with answer e = e ∙ sym (next_with ranges p)
+
+  pub plan_with : (q : TexturePlan) → Textures q ≡ behind_of (Textures p) → Textures (textures_with ranges q) ≡ behind_of (Textures (textures_with ranges p))
+  unfolding with_ranges behind_of
+  plan_with q e = ap (with_ranges ranges) e ∙ sym (behind_with ranges p)
 
 pub restored : (n : ℕ) (p q : TexturePlan) → Textures (textures_with None q) ≡ behind_all n (Textures (textures_with None p)) → Textures (textures_with p.ranges q) ≡ behind_all n (Textures p)
 unfolding with_ranges

@@ -1,16 +1,16 @@
 #![tactic(auto)]
 // Writes the regions left of a plan into a lent slice.
-ghost use Rattle.std.specs.Prelude.{◌≡◌, ◌+◌, ◌*◌, ◌≤◌, length, take, None};
+ghost use Rattle.std.specs.Prelude.{◌≡◌, ◌+◌, ◌*◌, ◌≤◌, length, [], None, unwrap_or};
 ghost use Rattle.std.proofs.lemmas.List.Edits.{sets};
 ghost use Rattle.slices.specs.Put.{Put};
-ghost use Rattle.plan_rows.specs.Rows.{row_of};
 ghost use Rattle.plan_kinds.specs.declared.Plan.{Plan};
 ghost use Rattle.plan_kinds.specs.Regions.{left_of, fields_of, region_numbers, behind_of, textures_with};
 ghost use Rattle.plan_writer.specs.Writing.{numbers_left, behind_all, fits, slots_of, written_of, EveryEntry};
 
+use plan_asked::Asked;
 use plan_buffer_texture::BufferTexturePlan;
 use plan_buffers::BufferPlan;
-use plan_kinds::Plan;
+use plan_kinds::{Plan, Regions};
 use plan_rows::Row;
 use plan_textures::TexturePlan;
 use refusals::TransferError;
@@ -37,82 +37,57 @@ fn is_room(plan: Plan, room: usize) -> bool
 }
 
 #[tactic(auto, using(slices::proofs::Puts::put_copied))]
-fn store_row(out: &mut [u64], at: usize, row: Row) -> usize
-    requires count_in_bounds { row.count ≤ length row.values }
-    requires count_in_bounds_2 { at + row.count ≤ length out.old }
-    ensures { Put out.old out.new at (take row.count row.values) result }
+fn store_row(out: &mut [u64], at: usize, row: &Row) -> usize
+    requires { at + length row.now ≤ length out.old }
+    ensures { Put out.old out.new at row.now result }
 {
-    let next = at + row.count;
-    out[at..next].copy_from_slice(&row.values[..row.count]);
+    let numbers = row.as_slice();
+    let next = at + numbers.len();
+    out[at..next].copy_from_slice(numbers);
     next
 }
 
-// A plan of one kind.
-trait Regions: Copy {
-    // The same as a plan of any kind.
-    ghost held: { Self → Plan };
-
-    fn regions_left(self) -> u32
-        ensures { result ≡ left_of (held self) };
-
-    // The next region as a row, and the plan after it.
-    fn next_row(self) -> (Row, Self)
-        ensures row { result.0 ≡ row_of (region_numbers (held self)) }
-        ensures behind { held result.1 ≡ behind_of (held self) };
-}
-
-impl Regions for BufferPlan {
-    ghost held = { λ p. Plan.Buffers p };
-
-    #[tactic(auto, unfolding(plan_kinds::specs::Regions::left_of))]
-    fn regions_left(self) -> u32 {
-        self.left
-    }
-
-    #[tactic(auto, unfolding(plan_kinds::specs::Regions::region_numbers, plan_kinds::specs::Regions::behind_of))]
-    fn next_row(self) -> (Row, BufferPlan) {
-        let asked = self.next();
-        let answer = asked.answer;
-        (plan_kinds::buffer_row(answer), asked.plan)
+// Nothing, where there is none.
+#[tactic(auto, using(slices::proofs::Puts::put_none))]
+fn store_answer(out: &mut [u64], at: usize, answer: Option<Row>) -> usize
+    requires { at + length (unwrap_or answer []) ≤ length out.old }
+    ensures { Put out.old out.new at (unwrap_or answer []) result }
+{
+    match answer {
+        Some(row) => store_row(out, at, &row),
+        None => at,
     }
 }
 
-impl Regions for BufferTexturePlan {
-    ghost held = { λ p. Plan.BufferTexture p };
+// A plan between textures without its ranges: copied from plan to plan they would take most of the time.
+#[derive(Clone, Copy)]
+struct BarePlan(TexturePlan);
+
+impl Regions for BarePlan {
+    ghost held = { λ p. Plan.Textures (textures_with None p.0) };
+
+    fn as_plan(self) -> Plan {
+        Plan::Textures(TexturePlan {
+            ranges: None,
+            ..self.0
+        })
+    }
 
     #[tactic(auto, unfolding(plan_kinds::specs::Regions::left_of))]
     fn regions_left(self) -> u32 {
-        self.left
+        self.0.left
     }
 
-    #[tactic(auto, unfolding(plan_kinds::specs::Regions::region_numbers, plan_kinds::specs::Regions::behind_of))]
-    fn next_row(self) -> (Row, BufferTexturePlan) {
-        let asked = self.next();
-        let answer = asked.answer;
-        (plan_kinds::buffer_texture_row(answer), asked.plan)
-    }
-}
-
-// The ranges are left out: copied from plan to plan they would take most of the time.
-impl Regions for TexturePlan {
-    ghost held = { λ p. Plan.Textures (textures_with None p) };
-
-    #[tactic(auto, unfolding(plan_kinds::specs::Regions::left_of))]
-    fn regions_left(self) -> u32 {
-        self.left
-    }
-
-    fn next_row(self) -> (Row, TexturePlan) {
-        let asked = self.next();
-        let answer = asked.answer;
-        let row = plan_kinds::texture_row(answer);
-        (
-            row,
-            TexturePlan {
-                ranges: None,
-                ..asked.plan
-            },
-        )
+    fn next_row(self) -> Asked<Row, BarePlan> {
+        let asked = self.0.next_row();
+        let plan = BarePlan(TexturePlan {
+            ranges: None,
+            ..asked.plan
+        });
+        Asked {
+            answer: asked.answer,
+            plan,
+        }
     }
 }
 
@@ -126,9 +101,9 @@ fn write_each<P: Regions>(plan: P, out: &mut [u64]) -> P
     let mut p = plan;
     let mut at: usize = 0;
     while p.regions_left() > 0 {
-        let (row, next) = p.next_row();
-        at = store_row(out, at, row);
-        p = next;
+        let asked = p.next_row();
+        at = store_answer(out, at, asked.answer);
+        p = asked.plan;
     }
     p
 }
@@ -155,8 +130,8 @@ pub fn write_textures(plan: TexturePlan, out: &mut [u64]) -> TexturePlan
     ensures out_after { out.new ≡ sets out.old 0 (numbers_left (Plan.Textures plan)) }
 {
     let ranges = plan.ranges;
-    let behind = write_each(plan, out);
-    TexturePlan { ranges, ..behind }
+    let behind = write_each(BarePlan(plan), out);
+    TexturePlan { ranges, ..behind.0 }
 }
 
 fn write_all(plan: Plan, out: &mut [u64]) -> Plan

@@ -2,7 +2,7 @@
 ghost use Rattle.std.specs.Prelude.{◌≡◌, true};
 ghost use Rattle.records.specs.Bounds.{buffer_in_bounds, texture_in_bounds};
 
-use crate::{Buffer, Texture};
+use crate::{Buffer, TextureSide};
 
 #[derive(Clone, Copy)]
 pub struct CheckedBuffer {
@@ -10,8 +10,9 @@ pub struct CheckedBuffer {
     pub ghost in_bounds: { buffer_in_bounds buffer ≡ true },
 }
 
+// Of a texture and the part of it: the texture's record was checked.
 #[derive(Clone, Copy)]
-pub struct CheckedTexture {
-    pub texture: Texture,
-    pub ghost in_bounds: { texture_in_bounds texture ≡ true },
+pub struct CheckedSide {
+    pub side: TextureSide,
+    pub ghost in_bounds: { texture_in_bounds side.texture ≡ true },
 }

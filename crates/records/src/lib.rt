@@ -9,7 +9,7 @@ ghost use Rattle.records.specs.Laws.{RecordLaws};
 
 mod checked_records;
 
-pub use checked_records::{CheckedBuffer, CheckedTexture};
+pub use checked_records::{CheckedBuffer, CheckedSide};
 use flags::{BufferUsages, TextureUsages};
 use formats::TextureAspect;
 use measures::{BlockSide, Extent3d, Origin3d, Texels};
@@ -82,7 +82,7 @@ pub struct Device {
 fn is_within(least: u32, n: u32, most: u32) -> bool
     ensures { result ≡ within least n most }
 {
-    conditions::both(least <= n, n <= most)
+    (least..=most).contains(&n)
 }
 
 #[tactic(auto, unfolding(crate::specs::Bounds::buffer_in_bounds))]
@@ -102,18 +102,18 @@ fn size_in_bounds(dimension: TextureDimension, e: Extent3d) -> bool
     let depth = e.depth_or_array_layers;
     match dimension {
         TextureDimension::D1 => {
-            conditions::all_three(is_within(1, width, MAX_SIDE), height == 1, depth == 1)
+            conditions::all([is_within(1, width, MAX_SIDE), height == 1, depth == 1])
         }
-        TextureDimension::D2 => conditions::all_three(
+        TextureDimension::D2 => conditions::all([
             is_within(1, width, MAX_SIDE),
             is_within(1, height, MAX_SIDE),
             is_within(1, depth, MAX_LAYERS),
-        ),
-        TextureDimension::D3 => conditions::all_three(
+        ]),
+        TextureDimension::D3 => conditions::all([
             is_within(1, width, MAX_SIDE_3D),
             is_within(1, height, MAX_SIDE_3D),
             is_within(1, depth, MAX_SIDE_3D),
-        ),
+        ]),
     }
 }
 
@@ -141,14 +141,14 @@ fn has_size_in_bounds(t: Texture) -> bool
     ensures { result ≡ size_in_bounds (texture_dimension t.dimension) t.size }
 {
     let size = t.size;
-    size_in_bounds(mip_levels::texture_dimension(t.dimension), size)
+    size_in_bounds(TextureDimension::from(t.dimension), size)
 }
 
 fn has_levels_in_bounds(t: Texture) -> bool
     ensures { result ≡ levels_in_bounds (texture_dimension t.dimension) t.size t.mip_level_count }
 {
     let size = t.size;
-    let dimension = mip_levels::texture_dimension(t.dimension);
+    let dimension = TextureDimension::from(t.dimension);
     levels_in_bounds(dimension, size, t.mip_level_count)
 }
 
@@ -183,13 +183,13 @@ fn has_four_samples(t: Texture) -> bool
     ensures { result ≡ four_samples t }
 {
     let size = t.size;
-    conditions::all_five(
+    conditions::all([
         t.sample_count == 4,
         t.dimension == 2,
         size.depth_or_array_layers == 1,
         t.mip_level_count == 1,
         may_be_multisampled(t.format),
-    )
+    ])
 }
 
 // Nearly every texture has one sample, hence a branch.
@@ -225,11 +225,11 @@ fn has_even_sides(t: Texture) -> bool
 {
     let size = t.size;
     let two = BlockSide::new(Texels(2));
-    conditions::all_three(
+    conditions::all([
         size.width.is_multiple_of(two),
         size.height.is_multiple_of(two),
         t.mip_level_count == 1,
-    )
+    ])
 }
 
 fn planes_suit(t: Texture) -> bool
@@ -284,67 +284,64 @@ pub fn check_buffer(b: Buffer, side: CopySide) -> Result<CheckedBuffer, Transfer
 }
 
 // A texture whose record is within its bounds, or 2.
-pub fn check_texture(t: Texture, side: CopySide) -> Result<CheckedTexture, TransferError>
-    ensures { mapped (λ c. c.texture) result ≡ decided (texture_checks t side) (Ok t) }
+pub fn check_texture(t: TextureSide, side: CopySide) -> Result<CheckedSide, TransferError>
+    ensures { mapped (λ c. c.side) result ≡ decided (texture_checks t.texture side) (Ok t) }
 {
-    if !texture_in_bounds(t) {
+    if !texture_in_bounds(t.texture) {
         return Err(TransferError::InvalidTextureRecord { side });
     }
-    Ok(CheckedTexture { texture: t })
+    Ok(CheckedSide { side: t })
 }
 
 // 2 where the source's record is out of its bounds, then where the destination's is. Both are written out, since the compiler inlines
 // the two halves of the test where they are called twice, and would leave the whole of it a call, for which a record has to be stored.
 pub fn check_textures(
-    src: Texture,
-    dst: Texture,
-) -> Result<(CheckedTexture, CheckedTexture), TransferError>
-    ensures { mapped {B = Texture × Texture} (λ c. (c.0.texture, c.1.texture)) result ≡ decided (both_texture_checks src dst) (Ok (src, dst)) }
+    src: TextureSide,
+    dst: TextureSide,
+) -> Result<(CheckedSide, CheckedSide), TransferError>
+    ensures { mapped {B = TextureSide × TextureSide} (λ c. (c.0.side, c.1.side)) result ≡ decided (both_texture_checks src.texture dst.texture) (Ok (src, dst)) }
 {
-    if !fields_in_bounds(src) {
+    if !fields_in_bounds(src.texture) {
         return Err(TransferError::InvalidTextureRecord {
             side: CopySide::Source,
         });
     }
-    if !fields_agree(src) {
+    if !fields_agree(src.texture) {
         return Err(TransferError::InvalidTextureRecord {
             side: CopySide::Source,
         });
     }
-    if !fields_in_bounds(dst) {
+    if !fields_in_bounds(dst.texture) {
         return Err(TransferError::InvalidTextureRecord {
             side: CopySide::Destination,
         });
     }
-    if !fields_agree(dst) {
+    if !fields_agree(dst.texture) {
         return Err(TransferError::InvalidTextureRecord {
             side: CopySide::Destination,
         });
     }
-    Ok((
-        CheckedTexture { texture: src },
-        CheckedTexture { texture: dst },
-    ))
+    let from = CheckedSide { side: src };
+    let to = CheckedSide { side: dst };
+    Ok((from, to))
 }
 
 // The logical extent of a level.
 #[tactic(auto, unfolding(crate::specs::Extents::logical_extent))]
-pub fn logical_extent(t: Texture, level: u32) -> Extent3d
-    ensures { result ≡ logical_extent t level }
+pub fn logical_extent(t: TextureSide) -> Extent3d
+    ensures { result ≡ logical_extent t.texture t.view.mip_level }
 {
-    let size = t.size;
-    mip_levels::mip_level_size(mip_levels::texture_dimension(t.dimension), size, level)
+    let texture = t.texture;
+    let dimension = TextureDimension::from(texture.dimension);
+    mip_levels::mip_level_size(dimension, texture.size, t.view.mip_level)
 }
 
 // The physical extent of a level: its width and height rounded up to blocks.
-pub fn physical_extent(t: CheckedTexture, level: u32) -> Extent3d
-    ensures { result ≡ physical_extent t.texture level }
+pub fn physical_extent(t: CheckedSide) -> Extent3d
+    ensures { result ≡ physical_extent t.side.texture t.side.view.mip_level }
 {
-    let format = t.texture.format;
-    measures::physical_size(
-        logical_extent(t.texture, level),
-        formats::block_dimensions(format),
-    )
+    let format = t.side.texture.format;
+    measures::physical_size(logical_extent(t.side), formats::block_dimensions(format))
 }
 
 // Asks the check for the laws of records; nothing runs here.

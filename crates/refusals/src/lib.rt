@@ -5,7 +5,7 @@ ghost use Rattle.refusals.specs.Numbers.{numbers_of, side_of, dimension_number, 
 
 use formats::TextureAspect;
 
-#[derive(Clone, Copy)]
+#[derive(Clone, Copy, PartialEq, Eq)]
 pub enum CopySide {
     Source,
     Destination,
@@ -131,8 +131,8 @@ pub enum TransferError {
     RegionSliceTooShort,
 }
 
-// A refusal as it is printed.
-#[derive(Clone, Copy)]
+// A refusal as it is printed. By default it has no number and no detail.
+#[derive(Clone, Copy, Default)]
 pub struct Refusal {
     pub number: u32,
     pub side: u32,
@@ -178,11 +178,8 @@ fn numbered(number: u32, start: u64) -> Refusal
 {
     Refusal {
         number,
-        side: 0,
-        dimension: 0,
         start,
-        end: 0,
-        limit: 0,
+        ..Refusal::default()
     }
 }
 
@@ -191,11 +188,10 @@ fn counted(number: u32, start: u32, end: u32, limit: u32) -> Refusal
 {
     Refusal {
         number,
-        side: 0,
-        dimension: 0,
         start: start as u64,
         end: end as u64,
         limit: limit as u64,
+        ..Refusal::default()
     }
 }
 
@@ -205,10 +201,10 @@ fn sided(number: u32, side: CopySide, start: u64, end: u64, limit: u64) -> Refus
     Refusal {
         number,
         side: u32::from(side),
-        dimension: 0,
         start,
         end,
         limit,
+        ..Refusal::default()
     }
 }
 

@@ -10,7 +10,7 @@ ghost use Rattle.rule_copy_range.specs.Laws.{EveryRange};
 
 use measures::{BlockDimensions, Extent3d, Origin3d, Texels};
 use mip_levels::TextureDimension;
-use records::{CheckedTexture, TexelCopyTextureInfo, Texture};
+use records::{CheckedSide, Texture, TextureSide};
 use refusals::{CopySide, TextureErrorDimension, TransferError};
 
 // What a refusal says of the texture.
@@ -29,90 +29,99 @@ pub struct CopyExtent {
     pub depth: u32,
 }
 
-// Where a run ends, as a refusal has it.
-#[tactic(auto, unfolding(crate::specs::Range::end_of))]
-fn end_of(start: u32, size: u32) -> u64
-    ensures { result ≡ end_of start size }
-{
-    start.wrapping_add(size) as u64
+// Texels along one side: from where, how many, and the limit that they may not pass. On Z a slice or a layer counts as a texel.
+#[derive(Clone, Copy)]
+pub struct Run {
+    pub start: Texels,
+    pub size: Texels,
+    pub limit: Texels,
 }
 
-#[tactic(auto, unfolding(crate::specs::Range::is_partial))]
-fn is_partial(exact: bool, start: u32, size: u32, limit: u32) -> bool
-    ensures { result ≡ is_partial exact start size limit }
-{
-    conditions::both(exact, conditions::either(start != 0, size != limit))
-}
+impl Run {
+    // Where it ends, as a refusal has it.
+    #[tactic(auto, unfolding(crate::specs::Range::end_of))]
+    fn end(self) -> u64
+        ensures { result ≡ end_of self.start.0 self.size.0 }
+    {
+        self.start.0.wrapping_add(self.size.0) as u64
+    }
 
-// Whether a run leaves its limit. The sum is made in 64 bits, which hold it.
-fn is_overrun(start: u32, size: u32, limit: u32) -> bool
-    ensures { result ≡ overruns start size limit }
-{
-    (limit as u64) < (start as u64) + (size as u64)
-}
+    #[tactic(auto, unfolding(crate::specs::Range::is_partial))]
+    fn is_partial(self, exact: bool) -> bool
+        ensures { result ≡ is_partial exact self.start.0 self.size.0 self.limit.0 }
+    {
+        conditions::both(
+            exact,
+            conditions::either(self.start.0 != 0, self.size.0 != self.limit.0),
+        )
+    }
 
-fn partial_transfer(
-    of: Subject,
-    dimension: TextureErrorDimension,
-    start: u32,
-    size: u32,
-    limit: u32,
-) -> TransferError
-    ensures { result ≡ partial_transfer of dimension start size limit }
-{
-    let side = of.side;
-    TransferError::UnsupportedPartialTransfer {
-        format: of.format,
-        sample_count: of.sample_count,
-        start_offset: start,
-        end_offset: end_of(start, size),
-        texture_size: limit,
-        dimension,
-        side,
+    // Whether it leaves its limit. The sum is made in 64 bits, which hold it.
+    fn is_overrun(self) -> bool
+        ensures { result ≡ overruns self.start.0 self.size.0 self.limit.0 }
+    {
+        (self.limit.0 as u64) < (self.start.0 as u64) + (self.size.0 as u64)
+    }
+
+    fn partial_transfer(self, of: Subject, dimension: TextureErrorDimension) -> TransferError
+        ensures { result ≡ partial_transfer of dimension self.start.0 self.size.0 self.limit.0 }
+    {
+        TransferError::UnsupportedPartialTransfer {
+            format: of.format,
+            sample_count: of.sample_count,
+            start_offset: self.start.0,
+            end_offset: self.end(),
+            texture_size: self.limit.0,
+            dimension,
+            side: of.side,
+        }
+    }
+
+    // A run that leaves its texture, or its plane.
+    fn texture_overrun(self, side: CopySide, dimension: TextureErrorDimension) -> TransferError
+        ensures { result ≡ texture_overrun side dimension self.start.0 self.size.0 self.limit.0 }
+    {
+        TransferError::TextureOverrun {
+            start_offset: self.start.0,
+            end_offset: self.end(),
+            texture_size: self.limit.0,
+            dimension,
+            side,
+        }
+    }
+
+    #[tactic(auto, using(refusals::proofs::Order::ordered), unfolding(crate::specs::Range::dimension_checks, refusals::specs::Order::decided))]
+    pub fn check_dimension(
+        self,
+        of: Subject,
+        dimension: TextureErrorDimension,
+        requires_exact_size: bool,
+    ) -> Result<(), TransferError>
+        ensures { result ≡ checked (dimension_checks of dimension self.start self.size self.limit requires_exact_size) }
+    {
+        if self.is_partial(requires_exact_size) {
+            return Err(self.partial_transfer(of, dimension));
+        }
+        if self.is_overrun() {
+            return Err(self.texture_overrun(of.side, dimension));
+        }
+        Ok(())
+    }
+
+    // Whether it lies inside its limit, and is all of it where it must be.
+    fn fits(self, exact: bool) -> bool
+        ensures { result ≡ run_fits exact self.start self.size self.limit }
+    {
+        let from = self.start.0;
+        let count = self.size.0;
+        let most = self.limit.0;
+        if exact {
+            return conditions::both(from == 0, count == most);
+        }
+        from as u64 + count as u64 <= most as u64
     }
 }
 
-// A run that leaves its texture, or its plane.
-fn texture_overrun(
-    side: CopySide,
-    dimension: TextureErrorDimension,
-    start: u32,
-    size: u32,
-    limit: u32,
-) -> TransferError
-    ensures { result ≡ texture_overrun side dimension start size limit }
-{
-    TransferError::TextureOverrun {
-        start_offset: start,
-        end_offset: end_of(start, size),
-        texture_size: limit,
-        dimension,
-        side,
-    }
-}
-
-#[tactic(auto, using(refusals::proofs::Order::ordered), unfolding(crate::specs::Range::dimension_checks, refusals::specs::Order::decided))]
-pub fn check_dimension(
-    of: Subject,
-    dimension: TextureErrorDimension,
-    start: Texels,
-    size: Texels,
-    limit: Texels,
-    requires_exact_size: bool,
-) -> Result<(), TransferError>
-    ensures { result ≡ checked (dimension_checks of dimension start size limit requires_exact_size) }
-{
-    if is_partial(requires_exact_size, start.0, size.0, limit.0) {
-        return Err(partial_transfer(of, dimension, start.0, size.0, limit.0));
-    }
-    if is_overrun(start.0, size.0, limit.0) {
-        let side = of.side;
-        return Err(texture_overrun(side, dimension, start.0, size.0, limit.0));
-    }
-    Ok(())
-}
-
-// On Z a slice or a layer counts as a texel.
 #[tactic(auto, using(refusals::proofs::Order::ordered), unfolding(crate::specs::Range::side_checks, refusals::specs::Order::decided))]
 fn check_sides(
     of: Subject,
@@ -123,30 +132,24 @@ fn check_sides(
 ) -> Result<(), TransferError>
     ensures { result ≡ checked (side_checks of o size extent exact) }
 {
-    check_dimension(
-        of,
-        TextureErrorDimension::X,
-        o.x,
-        size.width,
-        extent.width,
-        exact,
-    )?;
-    check_dimension(
-        of,
-        TextureErrorDimension::Y,
-        o.y,
-        size.height,
-        extent.height,
-        exact,
-    )?;
-    check_dimension(
-        of,
-        TextureErrorDimension::Z,
-        Texels(o.z),
-        Texels(size.depth_or_array_layers),
-        Texels(extent.depth_or_array_layers),
-        false,
-    )?;
+    let x = Run {
+        start: o.x,
+        size: size.width,
+        limit: extent.width,
+    };
+    x.check_dimension(of, TextureErrorDimension::X, exact)?;
+    let y = Run {
+        start: o.y,
+        size: size.height,
+        limit: extent.height,
+    };
+    y.check_dimension(of, TextureErrorDimension::Y, exact)?;
+    let z = Run {
+        start: Texels(o.z),
+        size: Texels(size.depth_or_array_layers),
+        limit: Texels(extent.depth_or_array_layers),
+    };
+    z.check_dimension(of, TextureErrorDimension::Z, false)?;
     Ok(())
 }
 
@@ -180,7 +183,7 @@ fn requires_exact(t: Texture) -> bool
 }
 
 #[tactic(auto, unfolding(crate::specs::Range::subject_of))]
-fn subject_of(t: Texture, side: CopySide) -> Subject
+pub fn subject_of(t: Texture, side: CopySide) -> Subject
     ensures { result ≡ subject_of t side }
 {
     Subject {
@@ -214,7 +217,7 @@ fn layers_of(dimension: TextureDimension, depth: u32) -> u32
 pub fn copy_extent(t: Texture, size: Extent3d) -> CopyExtent
     ensures { result ≡ copy_extent t size }
 {
-    let dimension = mip_levels::texture_dimension(t.dimension);
+    let dimension = TextureDimension::from(t.dimension);
     let width = size.width;
     let height = size.height;
     CopyExtent {
@@ -228,103 +231,85 @@ pub fn copy_extent(t: Texture, size: Extent3d) -> CopyExtent
 pub fn array_layer_count(t: Texture, size: Extent3d) -> u32
     ensures { result ≡ layer_count_of t size }
 {
-    let dimension = mip_levels::texture_dimension(t.dimension);
+    let dimension = TextureDimension::from(t.dimension);
     layers_of(dimension, size.depth_or_array_layers)
 }
 
-fn check_extent(
-    view: TexelCopyTextureInfo,
-    t: CheckedTexture,
-    side: CopySide,
-    size: Extent3d,
-) -> Result<(), TransferError>
-    ensures { result ≡ checked (side_checks (subject_of t.texture side) view.origin size (physical_extent t.texture view.mip_level) (requires_exact t.texture)) }
+fn check_extent(t: CheckedSide, side: CopySide, size: Extent3d) -> Result<(), TransferError>
+    ensures { result ≡ checked (side_checks (subject_of t.side.texture side) t.side.view.origin size (physical_extent t.side.texture t.side.view.mip_level) (requires_exact t.side.texture)) }
 {
-    let extent = records::physical_extent(t, view.mip_level);
-    let texture = t.texture;
+    let extent = records::physical_extent(t);
+    let texture = t.side.texture;
     check_sides(
         subject_of(texture, side),
-        view.origin,
+        t.side.view.origin,
         size,
         extent,
         requires_exact(texture),
     )
 }
 
-fn check_alignment(
-    view: TexelCopyTextureInfo,
-    t: Texture,
-    size: Extent3d,
-) -> Result<(), TransferError>
-    ensures { result ≡ checked (block_checks view.origin size (block_dimensions t.format)) }
+fn check_alignment(t: TextureSide, size: Extent3d) -> Result<(), TransferError>
+    ensures { result ≡ checked (block_checks t.view.origin size (block_dimensions t.texture.format)) }
 {
-    check_blocks(view.origin, size, formats::block_dimensions(t.format))
+    check_blocks(
+        t.view.origin,
+        size,
+        formats::block_dimensions(t.texture.format),
+    )
 }
 
 // The size of one region and the number of layers.
 #[tactic(auto, using(crate::proofs::Rules::range), unfolding(crate::specs::Range::range_checks, crate::specs::Range::range_checked, refusals::specs::Order::decided))]
 pub fn validate_texture_copy_range(
-    view: TexelCopyTextureInfo,
-    t: CheckedTexture,
+    t: CheckedSide,
     texture_side: CopySide,
     copy_size: Extent3d,
 ) -> Result<(CopyExtent, u32), TransferError>
-    ensures { result ≡ range_checked view t.texture texture_side copy_size }
+    ensures { result ≡ range_checked t.side.view t.side.texture texture_side copy_size }
 {
-    let texture = t.texture;
-    if view.mip_level >= texture.mip_level_count {
+    let texture = t.side.texture;
+    let level = t.side.view.mip_level;
+    if level >= texture.mip_level_count {
         return Err(TransferError::InvalidTextureMipLevel {
-            level: view.mip_level,
+            level,
             total: texture.mip_level_count,
         });
     }
-    check_extent(view, t, texture_side, copy_size)?;
-    check_alignment(view, texture, copy_size)?;
+    check_extent(t, texture_side, copy_size)?;
+    check_alignment(t.side, copy_size)?;
     Ok((
         copy_extent(texture, copy_size),
         array_layer_count(texture, copy_size),
     ))
 }
 
-// Whether a run lies inside its limit, and is all of it where it must be.
-fn run_fits(exact: bool, start: Texels, size: Texels, limit: Texels) -> bool
-    ensures { result ≡ run_fits exact start size limit }
-{
-    let from = start.0;
-    let count = size.0;
-    let most = limit.0;
-    if exact {
-        return conditions::both(from == 0, count == most);
-    }
-    from as u64 + count as u64 <= most as u64
-}
-
 // Sides are read by their numbers: copied as they are, two of them become one 64-bit word that is taken apart again.
 fn sides_fit(exact: bool, o: Origin3d, size: Extent3d, extent: Extent3d) -> bool
     ensures { result ≡ sides_fit exact o size extent }
 {
-    if !run_fits(
-        exact,
-        Texels(o.x.0),
-        Texels(size.width.0),
-        Texels(extent.width.0),
-    ) {
+    let x = Run {
+        start: Texels(o.x.0),
+        size: Texels(size.width.0),
+        limit: Texels(extent.width.0),
+    };
+    if !x.fits(exact) {
         return false;
     }
-    if !run_fits(
-        exact,
-        Texels(o.y.0),
-        Texels(size.height.0),
-        Texels(extent.height.0),
-    ) {
+    let y = Run {
+        start: Texels(o.y.0),
+        size: Texels(size.height.0),
+        limit: Texels(extent.height.0),
+    };
+    if !y.fits(exact) {
         return false;
     }
-    run_fits(
-        false,
-        Texels(o.z),
-        Texels(size.depth_or_array_layers),
-        Texels(extent.depth_or_array_layers),
-    )
+    let z = Run {
+        start: Texels(o.z),
+        size: Texels(size.depth_or_array_layers),
+        limit: Texels(extent.depth_or_array_layers),
+    };
+    z.fits(false)
 }
 
 // In one test, so that the whole is small enough for the compiler to inline on both sides of a copy.
@@ -334,42 +319,51 @@ fn blocks_fit(o: Origin3d, size: Extent3d, block: BlockDimensions) -> bool
 {
     conditions::both(
         o.x.is_multiple_of(block.width),
-        conditions::all_three(
+        conditions::all([
             o.y.is_multiple_of(block.height),
             size.width.is_multiple_of(block.width),
             size.height.is_multiple_of(block.height),
-        ),
+        ]),
     )
 }
 
 #[tactic(auto, unfolding(crate::specs::Inside::extent_fits))]
-fn extent_fits(view: TexelCopyTextureInfo, t: CheckedTexture, size: Extent3d) -> bool
-    ensures { result ≡ extent_fits view t.texture size }
+fn extent_fits(t: CheckedSide, size: Extent3d) -> bool
+    ensures { result ≡ extent_fits t.side.view t.side.texture size }
 {
-    let extent = records::physical_extent(t, view.mip_level);
-    let texture = t.texture;
-    sides_fit(requires_exact(texture), view.origin, size, extent)
+    let extent = records::physical_extent(t);
+    sides_fit(
+        requires_exact(t.side.texture),
+        t.side.view.origin,
+        size,
+        extent,
+    )
 }
 
 #[tactic(auto, unfolding(crate::specs::Inside::alignment_fits))]
-fn alignment_fits(view: TexelCopyTextureInfo, t: Texture, size: Extent3d) -> bool
-    ensures { result ≡ alignment_fits view t size }
+fn alignment_fits(t: TextureSide, size: Extent3d) -> bool
+    ensures { result ≡ alignment_fits t.view t.texture size }
 {
-    blocks_fit(view.origin, size, formats::block_dimensions(t.format))
+    blocks_fit(
+        t.view.origin,
+        size,
+        formats::block_dimensions(t.texture.format),
+    )
 }
 
-// Whether `validate_texture_copy_range` goes on, for callers that make the refusal only where it is needed.
-pub fn is_in_range(view: TexelCopyTextureInfo, t: CheckedTexture, size: Extent3d) -> bool
-    ensures { (side : CopySide) → result ≡ is_ok (range_checked view t.texture side size) }
+// Whether `validate_texture_copy_range` goes on, for callers that make the refusal only where it is needed. Inlined on both sides of a copy: as
+// a call it would keep the records of either side in memory.
+#[inline(always)]
+pub fn is_in_range(t: CheckedSide, size: Extent3d) -> bool
+    ensures { (side : CopySide) → result ≡ is_ok (range_checked t.side.view t.side.texture side size) }
 {
-    let texture = t.texture;
-    if texture.mip_level_count <= view.mip_level {
+    if t.side.texture.mip_level_count <= t.side.view.mip_level {
         return false;
     }
-    if !extent_fits(view, t, size) {
+    if !extent_fits(t, size) {
         return false;
     }
-    alignment_fits(view, texture, size)
+    alignment_fits(t.side, size)
 }
 
 // Asks the check for the laws of an accepted range; nothing runs here.

@@ -1,14 +1,12 @@
--- An alignment is above 0; and a layout's order of checks, where the alignment was a call's answer.
+-- An alignment is above 0.
 -- Assumes nothing.
 use Rattle.std.specs.Prelude.{Option, Some, None}
-use mathlib.Core.Path.{◌≡◌, refl, ap, ◌∙◌}
-use mathlib.Core.Bool.{Bool, ◌&&◌, not}
+use mathlib.Core.Path.{◌≡◌, refl}
 use Prim.Native.Nat.{ℕ, ◌<◌}
 use native.Mathlib.Omega.{arith}
-use Rattle.measures.specs.Measure.{multiple, or_else}
+use Rattle.measures.specs.Measure.{or_else}
 use Rattle.formats.specs.declared.TextureAspect.{TextureAspect}
 use Rattle.formats.specs.Aspects.{block_copy_size}
-use Rattle.refusals.proofs.Order.{ordered}
 use Rattle.formats.proofs.Rows.{every_format}
 
 pub some : (format : ℕ) (aspect : TextureAspect) → 0 < or_else (block_copy_size format aspect) 1
@@ -18,8 +16,3 @@ some format aspect = go (block_copy_size format aspect) refl
     go : (o : Option ℕ) → block_copy_size format aspect ≡ o → 0 < or_else o 1
     go (Some n) e = (every_format format).bytes_some aspect n e
     go None e = omega arith
-
-pub aligned_alike : (r aligned : Bool) (offset a b : ℕ) → r ≡ (aligned && not (multiple offset a)) → a ≡ b → r ≡ (aligned && not (multiple offset b))
-aligned_alike r aligned offset a b p q = p ∙ ap (λ (n : ℕ). aligned && not (multiple offset n)) q
-
-pub ruleset laid = (ordered, aligned_alike)

@@ -20,10 +20,7 @@ const COPY_BYTES_PER_ROW_ALIGNMENT: u32 = 256;
 fn is_depth_only(aspect: TextureAspect) -> bool
     ensures { result ≡ is_depth_only aspect }
 {
-    match aspect {
-        TextureAspect::DepthOnly => true,
-        _ => false,
-    }
+    aspect == TextureAspect::DepthOnly
 }
 
 fn is_src_depth(format: u32, aspect: TextureAspect) -> bool
@@ -88,30 +85,22 @@ pub fn validate_texture_copy_dst_format(
     Ok(())
 }
 
-fn block_alignment(format: u32, aspect: TextureAspect) -> u64
-    ensures value { result ≡ or_else (block_copy_size format aspect) 1 }
-    ensures some { 0 < result }
-{
-    measures::or_else(formats::block_copy_size(format, aspect), 1)
-}
-
 fn offset_alignment(format: u32, aspect: TextureAspect) -> u64
     ensures value { result ≡ offset_alignment format aspect }
     ensures some { 0 < result }
 {
     // asked for in any case: the rule of linear data asks again, and the compiler then makes one call of both
-    let block = block_alignment(format, aspect);
+    let block = measures::or_else(formats::block_copy_size(format, aspect), 1);
     if formats::is_depth_stencil_format(format) {
         return 4;
     }
     block
 }
 
-#[tactic(auto, unfolding(measures::specs::Measure::multiple))]
-fn is_unaligned_offset(offset: u64, alignment: u64, aligned: bool) -> bool
-    requires { 0 < alignment }
-    ensures { result ≡ (aligned && not (multiple offset alignment)) }
+fn is_unaligned_offset(format: u32, aspect: TextureAspect, offset: u64, aligned: bool) -> bool
+    ensures { result ≡ (aligned && not (multiple offset (offset_alignment format aspect))) }
 {
+    let alignment = offset_alignment(format, aspect);
     conditions::both(aligned, offset % alignment != 0)
 }
 
@@ -132,7 +121,7 @@ fn is_unaligned_row(bytes_per_row: Option<u32>, aligned: bool) -> bool
 }
 
 // `aspect` is the one asked for, `aspects` those chosen.
-#[tactic(auto, using(crate::proofs::Alignment::laid), unfolding(crate::specs::Rules::layout_checks, refusals::specs::Order::decided))]
+#[tactic(auto, using(refusals::proofs::Order::ordered), unfolding(crate::specs::Rules::layout_checks, refusals::specs::Order::decided))]
 pub fn validate_texture_buffer_copy(
     aspect: TextureAspect,
     aspects: FormatAspects,
@@ -143,7 +132,6 @@ pub fn validate_texture_buffer_copy(
     ensures { result ≡ checked (layout_checks aspect aspects.0 t layout aligned) }
 {
     let bytes_per_row = layout.bytes_per_row;
-    let alignment = offset_alignment(t.format, aspect);
     if t.sample_count != 1 {
         return Err(TransferError::InvalidSampleCount {
             sample_count: t.sample_count,
@@ -152,7 +140,7 @@ pub fn validate_texture_buffer_copy(
     if !aspects.is_one() {
         return Err(TransferError::CopyAspectNotOne);
     }
-    if is_unaligned_offset(layout.offset, alignment, aligned) {
+    if is_unaligned_offset(t.format, aspect, layout.offset, aligned) {
         return Err(TransferError::UnalignedBufferOffset(layout.offset));
     }
     if is_unaligned_row(bytes_per_row, aligned) {

@@ -1,15 +1,18 @@
 #![tactic(auto)]
 // The initialisation ranges of a copy: `handle_buffer_init` and `handle_texture_init` of command/transfer.rs, and
 // `has_copy_partial_init_tracker_coverage` of init_tracker/texture.rs.
-ghost use Rattle.std.specs.Prelude.{◌≡◌, ◌||◌, not, ◌+◌, ◌^◌, ◌≤◌, ◌<◌, eqb};
+ghost use Rattle.std.specs.Prelude.{◌≡◌, ◌||◌, not, ◌+◌, ◌^◌, ◌≤◌, ◌<◌};
 ghost use Rattle.conditions.specs.Conditions.{pick};
-ghost use Rattle.rule_init_ranges.specs.Init.{kind_number, is_all, depth_differs, size_differs, is_partial_cover, init_layers, texture_range, src_texture_range, dst_texture_range, aligned_down, aligned_up, buffer_range, unless, outward, inward, is_source, buffer_init};
+ghost use Rattle.rule_init_ranges.specs.Init.{kind_number, depth_differs, size_differs, is_partial_cover, init_layers, texture_range, src_texture_range, dst_texture_range, aligned_down, aligned_up, buffer_range, unless, outward, inward, is_source, buffer_init};
+
+mod span;
 
 use formats::TextureAspect;
-use measures::{Extent3d, Range, Texels};
+use measures::{Extent3d, Range};
 use mip_levels::TextureDimension;
-use records::{TexelCopyTextureInfo, Texture};
+use records::TextureSide;
 use refusals::CopySide;
+pub use span::BufferSpan;
 
 #[derive(Clone, Copy)]
 pub enum MemoryInitKind {
@@ -53,16 +56,6 @@ impl From<MemoryInitKind> for u32 {
     }
 }
 
-#[tactic(auto, unfolding(crate::specs::Init::is_all))]
-fn is_all(aspect: TextureAspect) -> bool
-    ensures { result ≡ is_all aspect }
-{
-    match aspect {
-        TextureAspect::All => true,
-        _ => false,
-    }
-}
-
 fn depth_differs(dimension: TextureDimension, depth: u32, level: u32) -> bool
     ensures { result ≡ depth_differs dimension depth level }
 {
@@ -73,20 +66,14 @@ fn depth_differs(dimension: TextureDimension, depth: u32, level: u32) -> bool
     }
 }
 
-fn differ(a: Texels, b: Texels) -> bool
-    ensures { result ≡ not (eqb a.0 b.0) }
-{
-    a.0 != b.0
-}
-
 #[tactic(auto, unfolding(crate::specs::Init::size_differs))]
 fn size_differs(dimension: TextureDimension, size: Extent3d, level: Extent3d) -> bool
     ensures { result ≡ size_differs dimension size level }
 {
     conditions::either(
-        differ(size.width, level.width),
+        size.width != level.width,
         conditions::either(
-            differ(size.height, level.height),
+            size.height != level.height,
             depth_differs(
                 dimension,
                 size.depth_or_array_layers,
@@ -97,17 +84,15 @@ fn size_differs(dimension: TextureDimension, size: Extent3d, level: Extent3d) ->
 }
 
 #[tactic(auto, unfolding(crate::specs::Init::is_partial_cover))]
-fn has_copy_partial_init_tracker_coverage(
-    copy_size: Extent3d,
-    view: TexelCopyTextureInfo,
-    t: Texture,
-) -> bool
-    ensures { result ≡ is_partial_cover copy_size view t }
+fn has_copy_partial_init_tracker_coverage(copy_size: Extent3d, t: TextureSide) -> bool
+    ensures { result ≡ is_partial_cover copy_size t.view t.texture }
 {
-    let aspect = view.aspect;
-    let dimension = mip_levels::texture_dimension(t.dimension);
-    let level = records::logical_extent(t, view.mip_level);
-    conditions::either(size_differs(dimension, copy_size, level), !is_all(aspect))
+    let dimension = TextureDimension::from(t.texture.dimension);
+    let level = records::logical_extent(t);
+    conditions::either(
+        size_differs(dimension, copy_size, level),
+        t.view.aspect != TextureAspect::All,
+    )
 }
 
 fn init_layers(dimension: TextureDimension, z: u32, depth: u32) -> Range
@@ -123,33 +108,22 @@ fn init_layers(dimension: TextureDimension, z: u32, depth: u32) -> Range
 }
 
 #[tactic(auto, unfolding(crate::specs::Init::texture_range))]
-fn texture_range(
-    view: TexelCopyTextureInfo,
-    t: Texture,
-    size: Extent3d,
-    kind: MemoryInitKind,
-) -> TextureInitRange
-    ensures { result ≡ texture_range view t size kind }
+fn texture_range(t: TextureSide, size: Extent3d, kind: MemoryInitKind) -> TextureInitRange
+    ensures { result ≡ texture_range t.view t.texture size kind }
 {
-    let origin = view.origin;
-    let dimension = mip_levels::texture_dimension(t.dimension);
-    let layers = init_layers(dimension, origin.z, size.depth_or_array_layers);
+    let dimension = TextureDimension::from(t.texture.dimension);
     TextureInitRange {
-        mip_level: view.mip_level,
-        layers,
+        mip_level: t.view.mip_level,
+        layers: init_layers(dimension, t.view.origin.z, size.depth_or_array_layers),
         kind,
     }
 }
 
 #[tactic(auto, unfolding(crate::specs::Init::src_texture_range))]
-pub fn src_texture_range(
-    view: TexelCopyTextureInfo,
-    t: Texture,
-    copy_size: Extent3d,
-) -> TextureInitRange
-    ensures { result ≡ src_texture_range view t copy_size }
+pub fn src_texture_range(t: TextureSide, copy_size: Extent3d) -> TextureInitRange
+    ensures { result ≡ src_texture_range t.view t.texture copy_size }
 {
-    texture_range(view, t, copy_size, MemoryInitKind::NeedsInitializedMemory)
+    texture_range(t, copy_size, MemoryInitKind::NeedsInitializedMemory)
 }
 
 fn dst_kind(partial: bool) -> MemoryInitKind
@@ -162,15 +136,11 @@ fn dst_kind(partial: bool) -> MemoryInitKind
 }
 
 #[tactic(auto, unfolding(crate::specs::Init::dst_texture_range))]
-pub fn dst_texture_range(
-    view: TexelCopyTextureInfo,
-    t: Texture,
-    copy_size: Extent3d,
-) -> TextureInitRange
-    ensures { result ≡ dst_texture_range view t copy_size }
+pub fn dst_texture_range(t: TextureSide, copy_size: Extent3d) -> TextureInitRange
+    ensures { result ≡ dst_texture_range t.view t.texture copy_size }
 {
-    let partial = has_copy_partial_init_tracker_coverage(copy_size, view, t);
-    texture_range(view, t, copy_size, dst_kind(partial))
+    let partial = has_copy_partial_init_tracker_coverage(copy_size, t);
+    texture_range(t, copy_size, dst_kind(partial))
 }
 
 #[tactic(auto, unfolding(crate::specs::Init::aligned_down))]
@@ -186,10 +156,16 @@ fn aligned_up(n: u64) -> u64
     requires { n < 2 ^ 63 }
     ensures { result ≡ aligned_up n }
 {
-    (n + 3) / 4 * 4
+    n.next_multiple_of(4)
 }
 
-fn range_unless(holds: bool, start: u64, end: u64, kind: MemoryInitKind) -> Option<BufferInitRange>
+// A range, unless a test holds.
+pub fn range_unless(
+    holds: bool,
+    start: u64,
+    end: u64,
+    kind: MemoryInitKind,
+) -> Option<BufferInitRange>
     ensures { result ≡ unless holds (buffer_range start end kind) }
 {
     if holds {
@@ -198,68 +174,64 @@ fn range_unless(holds: bool, start: u64, end: u64, kind: MemoryInitKind) -> Opti
     Some(BufferInitRange { start, end, kind })
 }
 
-#[tactic(auto, unfolding(crate::specs::Init::outward))]
-fn outward_ranges(start: u64, end: u64) -> BufferInitRanges
-    requires { end < 2 ^ 63 }
-    ensures { result ≡ outward start end }
-{
-    let whole = range_unless(
-        false,
-        aligned_down(start),
-        aligned_up(end),
-        MemoryInitKind::NeedsInitializedMemory,
-    );
-    BufferInitRanges {
-        head: None,
-        whole,
-        tail: None,
+impl BufferSpan {
+    fn end(self) -> u64
+        ensures value { result ≡ self.offset + self.bytes }
+        ensures low { result < 2 ^ 63 }
+    {
+        self.offset + self.bytes
     }
-}
 
-#[tactic(auto, unfolding(crate::specs::Init::inward))]
-fn inward_ranges(start: u64, end: u64) -> BufferInitRanges
-    requires { (start < 2 ^ 63) × (end < 2 ^ 63) }
-    ensures { result ≡ inward start end }
-{
-    let low = aligned_down(start);
-    let up = aligned_up(start);
-    let down = aligned_down(end);
-    let needs = MemoryInitKind::NeedsInitializedMemory;
-    let head = range_unless(up == start, low, up, needs);
-    let whole = range_unless(up == down, up, down, MemoryInitKind::ImplicitlyInitialized);
-    let tail = range_unless(down == end, down, down + 4, needs);
-    BufferInitRanges { head, whole, tail }
+    #[tactic(auto, unfolding(crate::specs::Init::outward))]
+    fn outward(self) -> BufferInitRanges
+        ensures { result ≡ outward self.offset (self.offset + self.bytes) }
+    {
+        let whole = range_unless(
+            false,
+            aligned_down(self.offset),
+            aligned_up(self.end()),
+            MemoryInitKind::NeedsInitializedMemory,
+        );
+        BufferInitRanges {
+            head: None,
+            whole,
+            tail: None,
+        }
+    }
+
+    #[tactic(auto, unfolding(crate::specs::Init::inward))]
+    fn inward(self) -> BufferInitRanges
+        ensures { result ≡ inward self.offset (self.offset + self.bytes) }
+    {
+        let start = self.offset;
+        let end = self.end();
+        let low = aligned_down(start);
+        let up = aligned_up(start);
+        let down = aligned_down(end);
+        let needs = MemoryInitKind::NeedsInitializedMemory;
+        let head = range_unless(up == start, low, up, needs);
+        let whole = range_unless(up == down, up, down, MemoryInitKind::ImplicitlyInitialized);
+        let tail = range_unless(down == end, down, down + 4, needs);
+        BufferInitRanges { head, whole, tail }
+    }
 }
 
 fn is_outward(direction: CopySide, is_contiguous: bool) -> bool
     ensures { result ≡ (not is_contiguous || is_source direction) }
 {
-    conditions::either(!is_contiguous, is_source(direction))
+    conditions::either(!is_contiguous, direction == CopySide::Source)
 }
 
-#[tactic(auto, unfolding(crate::specs::Init::is_source))]
-fn is_source(direction: CopySide) -> bool
-    ensures { result ≡ is_source direction }
-{
-    match direction {
-        CopySide::Source => true,
-        CopySide::Destination => false,
-    }
-}
-
-// The ranges of a copy of `bytes` from `offset` on, where the buffer is its source or its destination.
+// The ranges of a copy of a span of a buffer, which is its source or its destination.
 pub fn handle_buffer_init(
-    offset: u64,
+    span: BufferSpan,
     direction: CopySide,
-    bytes: u64,
     is_contiguous: bool,
 ) -> BufferInitRanges
-    requires { offset + bytes < 2 ^ 63 }
-    ensures { result ≡ buffer_init offset direction bytes is_contiguous }
+    ensures { result ≡ buffer_init span.offset direction span.bytes is_contiguous }
 {
-    let end = offset + bytes;
     if is_outward(direction, is_contiguous) {
-        return outward_ranges(offset, end);
+        return span.outward();
     }
-    inward_ranges(offset, end)
+    span.inward()
 }

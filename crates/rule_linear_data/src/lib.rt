@@ -101,41 +101,6 @@ fn linear_data(d: Dense, s: Span) -> LinearData
     }
 }
 
-#[tactic(auto, using(crate::proofs::Rules::sizes), unfolding(crate::specs::Stages::placed))]
-fn check_span(
-    layout: TexelCopyBufferLayout,
-    buffer_size: u64,
-    side: CopySide,
-    d: Dense,
-    s: Span,
-) -> Result<LinearData, TransferError>
-    ensures { result ≡ placed layout buffer_size side d s }
-{
-    if needs_bytes_per_row(layout.bytes_per_row, d) {
-        return Err(TransferError::UnspecifiedBytesPerRow);
-    }
-    if needs_rows_per_image(layout.rows_per_image, d) {
-        return Err(TransferError::UnspecifiedRowsPerImage);
-    }
-    let offset = layout.offset;
-    if offset > buffer_size {
-        return Err(TransferError::BufferStartOffsetOverrun {
-            start_offset: offset,
-            buffer_size,
-            side,
-        });
-    }
-    if s.total > buffer_size - offset {
-        return Err(TransferError::BufferEndOffsetOverrun {
-            start_offset: offset,
-            size: s.total,
-            buffer_size,
-            side,
-        });
-    }
-    Ok(linear_data(d, s))
-}
-
 fn needs_bytes_per_row(value: Option<u32>, d: Dense) -> bool
     ensures { result ≡ lacks value (several_rows d) }
 {
@@ -148,62 +113,89 @@ fn needs_rows_per_image(value: Option<u32>, d: Dense) -> bool
     is_lacking(value, several_images(d))
 }
 
-fn measure(
+// A copy's bytes and where they are to lie: how rows and images follow each other, and the size of the buffer, or the memory, on which side.
+#[derive(Clone, Copy)]
+struct LinearCopy {
     layout: TexelCopyBufferLayout,
     buffer_size: u64,
     side: CopySide,
-    d: Dense,
-    row_stride: u64,
-    image_rows: u64,
-) -> Result<LinearData, TransferError>
-    ensures { result ≡ measured layout buffer_size side d row_stride image_rows }
-{
-    let image_stride = image_rows
-        .checked_mul(row_stride)
-        .ok_or(TransferError::SizeOverflow)?;
-    let image_bytes = stacked(d.rows.0 as u64, row_stride, d.row_bytes).ok_or(
-        TransferError::SizeOverflow,
-    )?;
-    let total = stacked(d.images, image_stride, image_bytes).ok_or(TransferError::SizeOverflow)?;
-    let span = Span {
-        row_stride,
-        image_stride,
-        image_bytes,
-        total,
-    };
-    check_span(layout, buffer_size, side, d, span)
+    dense: Dense,
 }
 
-// The dense values stand for those that are absent.
-fn measure_given(
-    layout: TexelCopyBufferLayout,
-    buffer_size: u64,
-    side: CopySide,
-    d: Dense,
-) -> Result<LinearData, TransferError>
-    ensures { result ≡ measured layout buffer_size side d (row_stride_of layout d) (image_rows_of layout d) }
-{
-    let row_stride = measures::or_else(layout.bytes_per_row, d.row_bytes);
-    let image_rows = measures::or_else(layout.rows_per_image, d.rows.0 as u64);
-    measure(layout, buffer_size, side, d, row_stride, image_rows)
-}
+impl LinearCopy {
+    #[tactic(auto, using(crate::proofs::Rules::sizes), unfolding(crate::specs::Stages::placed))]
+    fn check_span(self, s: Span) -> Result<LinearData, TransferError>
+        ensures { result ≡ placed self.layout self.buffer_size self.side self.dense s }
+    {
+        if needs_bytes_per_row(self.layout.bytes_per_row, self.dense) {
+            return Err(TransferError::UnspecifiedBytesPerRow);
+        }
+        if needs_rows_per_image(self.layout.rows_per_image, self.dense) {
+            return Err(TransferError::UnspecifiedRowsPerImage);
+        }
+        let offset = self.layout.offset;
+        if offset > self.buffer_size {
+            return Err(TransferError::BufferStartOffsetOverrun {
+                start_offset: offset,
+                buffer_size: self.buffer_size,
+                side: self.side,
+            });
+        }
+        if s.total > self.buffer_size - offset {
+            return Err(TransferError::BufferEndOffsetOverrun {
+                start_offset: offset,
+                size: s.total,
+                buffer_size: self.buffer_size,
+                side: self.side,
+            });
+        }
+        Ok(linear_data(self.dense, s))
+    }
 
-#[tactic(auto, using(crate::proofs::Rules::sizes), unfolding(crate::specs::Stages::linear_staged))]
-fn check_linear(
-    layout: TexelCopyBufferLayout,
-    buffer_size: u64,
-    side: CopySide,
-    d: Dense,
-) -> Result<LinearData, TransferError>
-    ensures { result ≡ linear_staged layout buffer_size side d }
-{
-    if is_below(layout.bytes_per_row, d.row_bytes) {
-        return Err(TransferError::InvalidBytesPerRow);
+    fn measure(self, row_stride: u64, image_rows: u64) -> Result<LinearData, TransferError>
+        ensures { result ≡ measured self.layout self.buffer_size self.side self.dense row_stride image_rows }
+    {
+        let d = self.dense;
+        let image_stride = image_rows
+            .checked_mul(row_stride)
+            .ok_or(TransferError::SizeOverflow)?;
+        let image_bytes = stacked(d.rows.0 as u64, row_stride, d.row_bytes).ok_or(
+            TransferError::SizeOverflow,
+        )?;
+        let total = stacked(d.images, image_stride, image_bytes).ok_or(
+            TransferError::SizeOverflow,
+        )?;
+        let span = Span {
+            row_stride,
+            image_stride,
+            image_bytes,
+            total,
+        };
+        self.check_span(span)
     }
-    if is_below(layout.rows_per_image, d.rows.0 as u64) {
-        return Err(TransferError::InvalidRowsPerImage);
+
+    // The dense values stand for those that are absent.
+    fn measure_given(self) -> Result<LinearData, TransferError>
+        ensures { result ≡ measured self.layout self.buffer_size self.side self.dense (row_stride_of self.layout self.dense) (image_rows_of self.layout self.dense) }
+    {
+        let d = self.dense;
+        let row_stride = measures::or_else(self.layout.bytes_per_row, d.row_bytes);
+        let image_rows = measures::or_else(self.layout.rows_per_image, d.rows.0 as u64);
+        self.measure(row_stride, image_rows)
     }
-    measure_given(layout, buffer_size, side, d)
+
+    #[tactic(auto, using(crate::proofs::Rules::sizes), unfolding(crate::specs::Stages::linear_staged))]
+    fn check(self) -> Result<LinearData, TransferError>
+        ensures { result ≡ linear_staged self.layout self.buffer_size self.side self.dense }
+    {
+        if is_below(self.layout.bytes_per_row, self.dense.row_bytes) {
+            return Err(TransferError::InvalidBytesPerRow);
+        }
+        if is_below(self.layout.rows_per_image, self.dense.rows.0 as u64) {
+            return Err(TransferError::InvalidRowsPerImage);
+        }
+        self.measure_given()
+    }
 }
 
 fn block_bytes(format: u32, aspect: TextureAspect) -> u64
@@ -235,12 +227,13 @@ pub fn validate_linear_texture_data(
 ) -> Result<LinearData, TransferError>
     ensures { result ≡ linear_checked layout format aspect buffer_size buffer_side copy_size }
 {
-    check_linear(
+    let copy = LinearCopy {
         layout,
         buffer_size,
-        buffer_side,
-        dense_of(format, aspect, copy_size),
-    )
+        side: buffer_side,
+        dense: dense_of(format, aspect, copy_size),
+    };
+    copy.check()
 }
 
 // Asks the check for the laws of linear data; nothing runs here.

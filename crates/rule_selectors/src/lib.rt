@@ -7,7 +7,7 @@ ghost use Rattle.rule_selectors.specs.Selector.{range as range_of, layer_of, z_o
 use flags::FormatAspects;
 use measures::{Extent3d, Origin3d, Range};
 use mip_levels::TextureDimension;
-use records::{TexelCopyTextureInfo, Texture};
+use records::{TexelCopyTextureInfo, TextureSide};
 use refusals::TransferError;
 
 // The levels and layers that a copy selects.
@@ -68,33 +68,30 @@ fn layer_range(dimension: TextureDimension, z: u32, depth: u32) -> Range
 }
 
 #[tactic(auto, unfolding(crate::specs::Selector::selector_of))]
-fn selector_of(view: TexelCopyTextureInfo, t: Texture, size: Extent3d) -> TextureSelector
-    ensures { result ≡ selector_of view t size }
+fn selector_of(t: TextureSide, size: Extent3d) -> TextureSelector
+    ensures { result ≡ selector_of t.view t.texture size }
 {
-    let origin = view.origin;
-    let dimension = mip_levels::texture_dimension(t.dimension);
-    let mips = run(view.mip_level, 1);
-    let layers = layer_range(dimension, origin.z, size.depth_or_array_layers);
-    TextureSelector { mips, layers }
+    let dimension = TextureDimension::from(t.texture.dimension);
+    TextureSelector {
+        mips: run(t.view.mip_level, 1),
+        layers: layer_range(dimension, t.view.origin.z, size.depth_or_array_layers),
+    }
 }
 
 #[tactic(auto, unfolding(crate::specs::Selector::base_of))]
-fn base_of(view: TexelCopyTextureInfo, t: Texture, aspect: FormatAspects) -> TextureCopyBase
-    ensures { result ≡ base_of view t aspect.0 }
+fn base_of(t: TextureSide, aspect: FormatAspects) -> TextureCopyBase
+    ensures { result ≡ base_of t.view t.texture aspect.0 }
 {
-    let origin = view.origin;
-    let dimension = mip_levels::texture_dimension(t.dimension);
-    let x = origin.x;
-    let y = origin.y;
-    let start = Origin3d {
-        x,
-        y,
-        z: z_of(dimension, origin.z),
-    };
+    let dimension = TextureDimension::from(t.texture.dimension);
+    let view = t.view;
+    let z = view.origin.z;
     TextureCopyBase {
         mip_level: view.mip_level,
-        array_layer: layer_of(dimension, origin.z),
-        origin: start,
+        array_layer: layer_of(dimension, z),
+        origin: Origin3d {
+            z: z_of(dimension, z),
+            ..view.origin
+        },
         aspect,
     }
 }
@@ -104,32 +101,25 @@ fn base_of(view: TexelCopyTextureInfo, t: Texture, aspect: FormatAspects) -> Tex
 pub fn next_layer(b: TextureCopyBase) -> TextureCopyBase
     ensures { result ≡ next_layer b }
 {
-    let origin = b.origin;
-    let aspect = b.aspect;
     TextureCopyBase {
-        mip_level: b.mip_level,
         array_layer: b.array_layer.wrapping_add(1),
-        origin,
-        aspect,
+        ..b
     }
 }
 
 pub fn extract_texture_selector(
-    view: TexelCopyTextureInfo,
+    t: TextureSide,
     copy_size: Extent3d,
-    t: Texture,
 ) -> Result<(TextureSelector, TextureCopyBase), TransferError>
-    ensures { result ≡ selector_checked view t copy_size }
+    ensures { result ≡ selector_checked t.view t.texture copy_size }
 {
-    let aspect = view.aspect;
-    let aspects = formats::chosen_aspects(t.format, aspect);
-    if aspects.0 == 0 {
-        return Err(TransferError::InvalidTextureAspect {
-            format: t.format,
-            aspect,
-        });
+    let format = t.texture.format;
+    let aspect = t.view.aspect;
+    let aspects = formats::chosen_aspects(format, aspect);
+    if aspects == FormatAspects(0) {
+        return Err(TransferError::InvalidTextureAspect { format, aspect });
     }
-    Ok((selector_of(view, t, copy_size), base_of(view, t, aspects)))
+    Ok((selector_of(t, copy_size), base_of(t, aspects)))
 }
 
 // Whether a z lies below another plus a count of layers.
@@ -148,19 +138,15 @@ fn is_overlap(
 ) -> bool
     ensures { result ≡ overlaps src dst format layers }
 {
-    let src_aspect = src.aspect;
-    let dst_aspect = dst.aspect;
-    let src_origin = src.origin;
-    let dst_origin = dst.origin;
-    let src_aspects = formats::chosen_aspects(format, src_aspect);
-    let dst_aspects = formats::chosen_aspects(format, dst_aspect);
+    let src_aspects = formats::chosen_aspects(format, src.aspect);
+    let dst_aspects = formats::chosen_aspects(format, dst.aspect);
     conditions::both(
         src_aspects.meets(dst_aspects),
-        conditions::all_three(
-            is_below_end(src_origin.z, dst_origin.z, layers),
-            is_below_end(dst_origin.z, src_origin.z, layers),
+        conditions::all([
+            is_below_end(src.origin.z, dst.origin.z, layers),
+            is_below_end(dst.origin.z, src.origin.z, layers),
             src.mip_level == dst.mip_level,
-        ),
+        ]),
     )
 }
 
@@ -174,15 +160,11 @@ pub fn validate_copy_within_same_texture(
     ensures { result ≡ checked (same_texture_checks src dst format array_layer_count) }
 {
     if is_overlap(src, dst, format, array_layer_count) {
-        let src_aspects = src.aspect;
-        let dst_aspects = dst.aspect;
-        let src_origin = src.origin;
-        let dst_origin = dst.origin;
         return Err(TransferError::InvalidCopyWithinSameTexture {
-            src_aspects,
-            dst_aspects,
-            src_origin_z: src_origin.z,
-            dst_origin_z: dst_origin.z,
+            src_aspects: src.aspect,
+            dst_aspects: dst.aspect,
+            src_origin_z: src.origin.z,
+            dst_origin_z: dst.origin.z,
             array_layer_count,
         });
     }

@@ -48,13 +48,26 @@ unfoldable pub buffers_planned : List ℕ → List ℕ → Device → Line → R
 buffers_planned s bs device l = decided (index_checks bs (word_of l 1) bs (word_of l 3)) (named_buffers s bs device l)
 
 -- `2` or `3 buffer offset bytes rows texture level x y z aspect w h d`
-unfoldable pub named_copy : List ℕ → List ℕ → List ℕ → Device → Line → Result (Plan × Ranges) TransferError
-named_copy s ts bs device l =
-    pick (eqb (value_of l 0) 2) (planned_upload device (word_of l 1) (buffer_at s bs (word_of l 1)) (layout_of l) (word_of l 5) (texture_at s ts (word_of l 5)) (view_of l 6) (extent_of l 11)) $
+abbrev pub named_upload : List ℕ → List ℕ → List ℕ → Device → Line → Result (Plan × Ranges) TransferError
+named_upload s ts bs device l =
+    planned_upload device (word_of l 1) (buffer_at s bs (word_of l 1)) (layout_of l) (word_of l 5) (texture_at s ts (word_of l 5)) (view_of l 6) (extent_of l 11)
+
+abbrev pub named_download : List ℕ → List ℕ → List ℕ → Device → Line → Result (Plan × Ranges) TransferError
+named_download s ts bs device l =
     planned_download device (word_of l 5) (texture_at s ts (word_of l 5)) (view_of l 6) (word_of l 1) (buffer_at s bs (word_of l 1)) (layout_of l) (extent_of l 11)
+
+unfoldable pub named_copy : List ℕ → List ℕ → List ℕ → Device → Line → Result (Plan × Ranges) TransferError
+named_copy s ts bs device l = pick (eqb (value_of l 0) 2) (named_upload s ts bs device l) (named_download s ts bs device l)
 
 unfoldable pub copy_planned : List ℕ → List ℕ → List ℕ → Device → Line → Result (Plan × Ranges) TransferError
 copy_planned s ts bs device l = decided (index_checks bs (word_of l 1) ts (word_of l 5)) (named_copy s ts bs device l)
+
+-- the same where the kind is known
+abbrev pub upload_planned : List ℕ → List ℕ → List ℕ → Device → Line → Result (Plan × Ranges) TransferError
+upload_planned s ts bs device l = decided (index_checks bs (word_of l 1) ts (word_of l 5)) (named_upload s ts bs device l)
+
+abbrev pub download_planned : List ℕ → List ℕ → List ℕ → Device → Line → Result (Plan × Ranges) TransferError
+download_planned s ts bs device l = decided (index_checks bs (word_of l 1) ts (word_of l 5)) (named_download s ts bs device l)
 
 -- `5 length offset bytes rows texture level x y z aspect w h d`: no buffer is named
 unfoldable pub named_memory : List ℕ → List ℕ → Device → Line → Result (Plan × Ranges) TransferError

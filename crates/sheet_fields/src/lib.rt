@@ -1,6 +1,6 @@
 #![tactic(auto)]
 // Fields of decimal text, and lines of fields. What a field may hold goes by its kind, so that one reader reads every line.
-ghost use Rattle.std.specs.Prelude.{◌≡◌, ◌+◌, ◌≤◌, length, drop};
+ghost use Rattle.std.specs.Prelude.{◌≡◌, ◌+◌, ◌≤◌, None, length, drop, get_or};
 ghost use Rattle.sheet_fields.specs.Codes.{rule, rule_of};
 ghost use Rattle.sheet_fields.specs.Field.{is_gap, token, plain, decimal_of, push_of, is_dash, token_of, field_of};
 ghost use Rattle.sheet_fields.specs.Line.{line_values, no_line, line_of, separator_of};
@@ -42,6 +42,15 @@ pub struct Field {
 pub struct Line {
     pub next: usize,
     pub values: [Option<u64>; LINE_VALUES],
+}
+
+impl Line {
+    // What stands in a field, if anything does; past the last field nothing.
+    pub fn value(self, i: usize) -> Option<u64>
+        ensures { result ≡ get_or self.values i None }
+    {
+        *self.values.get(i)?
+    }
 }
 
 // What is read where no line is.

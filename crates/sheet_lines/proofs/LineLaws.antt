@@ -1,29 +1,30 @@
 -- Lengths of lines, and lines that are put one after the other.
 -- Assumes nothing.
-use Rattle.std.specs.Prelude.{Option, Some, None, Result, Ok, Err}
-use mathlib.Core.Path.{◌≡◌, refl, ap, ◌∙◌}
+use Rattle.std.specs.Prelude.{Option, Some, None, Result, Ok, Err, unwrap_or}
+use mathlib.Core.Path.{◌≡◌, refl, sym, ap, ◌∙◌}
 use mathlib.Core.Bool.{Bool, true, false}
-use mathlib.Core.List.{List, [], ◌∷◌, ◌++◌}
-use Prim.Native.Nat.{ℕ, ◌+◌, ◌*◌, ◌≤◌, ◌<◌}
+use mathlib.Core.List.{List, [], ◌∷◌, ◌++◌, append-nil}
+use Prim.Native.Nat.{ℕ, ◌+◌, ◌-◌, ◌*◌, ◌≤◌, ◌<◌}
 use native.Mathlib.Omega.{arith}
-use lib.ListN.{length, take, length-append}
+use native.Mathlib.Numerals.{add-one}
+use lib.ListN.{length, drop, get_or, length-append, drop_of_length-le}
+use lib.Seq.{drop-cons}
 use Rattle.refusals.specs.declared.TransferError.{TransferError}
 use Rattle.rule_init_ranges.specs.declared.TextureInitRange.{TextureInitRange}
 use Rattle.rule_init_ranges.specs.declared.BufferInitRange.{BufferInitRange}
 use Rattle.slices.specs.Put.{Put}
 use Rattle.sheet_text.specs.Text.{spaced, line_text}
-use Rattle.slices.proofs.Puts.{put_as, put_then, put_length}
+use Rattle.slices.proofs.Puts.{put_none, put_as, put_then, put_length}
 use Rattle.sheet_text.proofs.Puts.{spaced_few, line_few}
-use Rattle.plan_rows.specs.declared.Row.{Row}
-use Rattle.plan_rows.specs.Rows.{row_of, buffer_copy_numbers, buffer_texture_copy_numbers, texture_copy_numbers, texture_range_numbers, buffer_range_numbers, refusal_numbers}
-use Rattle.plan_rows.proofs.Fronts.{row_count, row_numbers, row_inside}
+use Rattle.plan_rows.specs.Rows.{buffer_copy_numbers, buffer_texture_copy_numbers, texture_copy_numbers, texture_range_numbers, buffer_range_numbers, refusal_numbers}
+use Rattle.plan_kinds.proofs.Numbers.{numbers_or_none}
 use Rattle.plan_kinds.specs.declared.Plan.{Plan}
 use Rattle.plan_kinds.specs.declared.Plan.TheVariants.{Buffers, BufferTexture, Textures}
 use Rattle.copy_kinds.specs.declared.InitRange.{InitRange}
 use Rattle.copy_kinds.specs.declared.InitRange.TheVariants.{Texture, Buffer}
 use Rattle.copy_kinds.specs.declared.Ranges.{Ranges}
-use Rattle.plan_kinds.specs.declared.AskedRow.{AskedRow}
-use Rattle.copy_kinds.specs.Ranges.{count_of}
+use Rattle.plan_asked.specs.declared.Asked.{Asked}
+use Rattle.copy_kinds.specs.Ranges.{range_at, count_of}
 use Rattle.plan_kinds.specs.Regions.{left_of, checked_bytes_of, buffer_numbers, buffer_texture_numbers, texture_numbers, region_numbers, behind_of, next_of}
 use Rattle.sheet_lines.specs.Lines.{sheet_word, texture_word, buffer_word, ok_word, refused_word, region_word, sheet_text, range_text, ranges_text, copy_text, plan_text, refusal_text, answer_text, region_text}
 use Rattle.plan_buffer_texture.specs.declared.BufferTextureCopy.{BufferTextureCopy}
@@ -65,30 +66,16 @@ numbers_few (Buffers p) = buffer_few _
 numbers_few (BufferTexture p) = buffer_texture_few _
 numbers_few (Textures p) = texture_few _
 
-pub asked_row : (p : Plan) (a : AskedRow) → a ≡ next_of p → a.row ≡ row_of (region_numbers p)
+pub asked_numbers : (p : Plan) (a : Asked (List ℕ) Plan) → a ≡ next_of p → unwrap_or a.answer [] ≡ region_numbers p
 unfolding next_of
-asked_row p a e = ap (λ (q : AskedRow). q.row) e
+asked_numbers p a e = ap (λ (q : Asked (List ℕ) Plan). unwrap_or q.answer []) e ∙ numbers_or_none p
 
-pub asked_plan : (p : Plan) (a : AskedRow) → a ≡ next_of p → a.plan ≡ behind_of p
+pub asked_plan : (p : Plan) (a : Asked (List ℕ) Plan) → a ≡ next_of p → a.plan ≡ behind_of p
 unfolding next_of
-asked_plan p a e = ap (λ (q : AskedRow). q.plan) e
+asked_plan p a e = ap (λ (q : Asked (List ℕ) Plan). q.plan) e
 
 pub region_fits : (p : Plan) → 1 + (21 * length (region_numbers p) + 1) ≤ 1024
 region_fits p = omega (arith, numbers_few p)
-
--- ---- a row's line
-
-module _ (w : List ℕ) (dash : Bool) (ns : List ℕ) (n : ℕ) (count : length ns ≡ n) (few : n ≤ 15) (row : Row) (is : row ≡ row_of ns) where
-  fits : length ns ≤ 15
-  fits = omega (arith, count)
-
-  pub row_needs :
-      (at len have : ℕ) → at + have ≤ len → length w + (21 * n + 1) ≤ have
-      → (row.count ≤ length row.values) × (at + (length w + (21 * row.count + 1)) ≤ len)
-  row_needs at len have h k = (row_inside ns fits row is, let e : row.count ≡ n = row_count ns fits row is ∙ count in rw e (omega arith))
-
-  pub row_line : {l m : List ℕ} {at r : ℕ} → Put l m at (line_text w dash (take row.count row.values)) r → Put l m at (line_text w dash ns) r
-  row_line p = put_as p (ap (λ (k : List ℕ). line_text w dash k) (row_numbers ns fits row is))
 
 -- ---- lengths
 
@@ -108,6 +95,50 @@ module _ {l m : List ℕ} {at a : ℕ} {t : List ℕ} (p : Put l m at t a) where
   -- room that is left after a text
   pub room_behind : (n have need : ℕ) → length t ≤ n → at + have ≤ length l → n + need ≤ have → a + need ≤ length m
   room_behind n have need few h k = omega (arith, p.next, put_length p)
+
+-- the lines of the slots from the i-th on
+pub texts : List (Option InitRange) → List ℕ
+texts [] = []
+texts (slot ∷ ss) = range_text slot ++ texts ss
+
+module _ (l₀ l : List ℕ) (at next : ℕ) (ss : List (Option InitRange)) (i : ℕ) where
+  pub record Underway : Type 0 where
+    pub room : next + 128 * (4 - i) ≤ length l
+    pub same : length l ≡ length l₀
+    pub rest : (m : List ℕ) (r : ℕ) → Put l m next (texts (drop i ss)) r → Put l₀ m at (texts ss) r
+
+texts_on : (ss : List (Option InitRange)) (i : ℕ) → i < length ss → texts (drop i ss) ≡ range_text (get_or ss i None) ++ texts (drop (i + 1) ss)
+unfolding texts
+texts_on ss i h = rw (drop-cons ss i None h, add-one i)
+
+texts_end : (ss : List (Option InitRange)) (i : ℕ) → length ss ≤ i → texts (drop i ss) ≡ []
+unfolding texts
+texts_end ss i h = rw (drop_of_length-le ss h)
+
+pub underway_on :
+    (l₀ l m : List ℕ) (at next : ℕ) (ss : List (Option InitRange)) (i r : ℕ) → Underway l₀ l at next ss i → length ss ≡ 4 → i < 4
+    → Put l m next (range_text (get_or ss i None)) r → Underway l₀ m at r ss (i + 1)
+underway_on l₀ l m at next ss i r u four h p =
+    record {
+      room = omega (arith, p.next, put_length p, u.room, range_few (get_or ss i None));
+      same = put_length p ∙ u.same;
+      rest = λ m' r' q. u.rest m' r' (put_as (put_then p q) (sym (texts_on ss i (omega (arith, four)))));
+    }
+
+pub underway_end : (l₀ l : List ℕ) (at next : ℕ) (ss : List (Option InitRange)) (i : ℕ) → Underway l₀ l at next ss i → length ss ≡ 4 → 4 ≤ i → Put l₀ l at (texts ss) next
+underway_end l₀ l at next ss i u four h = u.rest l next (put_as (put_none l next) (sym (texts_end ss i (omega (arith, four)))))
+
+pub texts_all : (r : Ranges) → length r.slots ≡ 4 → texts r.slots ≡ ranges_text r
+unfolding texts ranges_text
+texts_all r h = by r.slots h
+  where
+    by : (ss : List (Option InitRange)) → length ss ≡ 4 → texts ss ≡ range_text (get_or ss 0 None) ++ (range_text (get_or ss 1 None) ++ (range_text (get_or ss 2 None) ++ range_text (get_or ss 3 None)))
+    by [] e = absurd (omega arith)
+    by (a ∷ []) e = absurd (omega arith)
+    by (a ∷ b ∷ []) e = absurd (omega arith)
+    by (a ∷ b ∷ c ∷ []) e = absurd (omega arith)
+    by (a ∷ b ∷ c ∷ d ∷ []) e = rw (append-nil (range_text d)) refl
+    by (a ∷ b ∷ c ∷ d ∷ x ∷ xs) e = absurd (omega arith)
 
 pub plan_put :
     {l m n o : List ℕ} {at a b q : ℕ} (k : ℕ) (p : Plan) (r : Ranges) (x y z : ℕ) → Put l m at (copy_text k) a
@@ -129,10 +160,10 @@ region_few p = omega (arith, line_few region_word true (region_numbers p), numbe
 ranges_few : (r : Ranges) → length (ranges_text r) ≤ 428
 unfolding ranges_text
 ranges_few r =
-    let a = length-append (range_text r.first) (range_text r.second ++ (range_text r.third ++ range_text r.fourth)) in
-    let b = length-append (range_text r.second) (range_text r.third ++ range_text r.fourth) in
-    let c = length-append (range_text r.third) (range_text r.fourth) in
-    omega (arith, a, b, c, range_few r.first, range_few r.second, range_few r.third, range_few r.fourth)
+    let a = length-append (range_text (range_at r 0)) (range_text (range_at r 1) ++ (range_text (range_at r 2) ++ range_text (range_at r 3))) in
+    let b = length-append (range_text (range_at r 1)) (range_text (range_at r 2) ++ range_text (range_at r 3)) in
+    let c = length-append (range_text (range_at r 2)) (range_text (range_at r 3)) in
+    omega (arith, a, b, c, range_few (range_at r 0), range_few (range_at r 1), range_few (range_at r 2), range_few (range_at r 3))
 
 pub answer_few : (k : ℕ) (a : Result (Plan × Ranges) TransferError) → length (answer_text k a) ≤ 1024
 unfolding answer_text plan_text refusal_text

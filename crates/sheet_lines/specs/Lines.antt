@@ -7,7 +7,7 @@ use Rattle.plan_kinds.specs.declared.Plan.{Plan}
 use Rattle.copy_kinds.specs.declared.InitRange.{InitRange}
 use Rattle.copy_kinds.specs.declared.InitRange.TheVariants.{Texture, Buffer}
 use Rattle.copy_kinds.specs.declared.Ranges.{Ranges}
-use Rattle.copy_kinds.specs.Ranges.{count_of}
+use Rattle.copy_kinds.specs.Ranges.{range_at, count_of}
 use Rattle.plan_kinds.specs.Regions.{left_of, checked_bytes_of, region_numbers}
 
 -- the words `sheet`, `copy`, ` ok`, ` refused`
@@ -44,7 +44,7 @@ range_text (Some (Buffer i r)) = line_text buffer_word false (buffer_range_numbe
 range_text None = []
 
 unfoldable pub ranges_text : Ranges → List ℕ
-ranges_text r = range_text r.first ++ (range_text r.second ++ (range_text r.third ++ range_text r.fourth))
+ranges_text r = range_text (range_at r 0) ++ (range_text (range_at r 1) ++ (range_text (range_at r 2) ++ range_text (range_at r 3)))
 
 -- `copy k`
 unfoldable pub copy_text : ℕ → List ℕ

@@ -1,48 +1,34 @@
 -- A piece, with what is left after it, is what was left.
 -- Assumes nothing.
+use Rattle.std.specs.Prelude.{Result, Option, Some, None}
 use mathlib.Core.Path.{◌≡◌, refl, sym, ap, ◌∙◌}
 use mathlib.Core.Bool.{Bool, true, false}
-use mathlib.Core.List.{List, [], ◌∷◌, ◌++◌, append_assoc, append-nil}
+use mathlib.Core.List.{List, [], ◌++◌, append_assoc, append-nil}
 use Prim.Native.Nat.{ℕ, zero, suc, ◌+◌, ◌-◌, ◌≤◌, ◌<◌}
 use native.Mathlib.Omega.{arith}
 use borrow.Author.Tests.{ltb-true, ltb-false}
 use lib.Dec.{ltb}
 use lib.ListN.{length, length-append}
-use lib.Seq.{sets}
+use Rattle.sheet_fields.specs.declared.Line.{Line}
 use Rattle.sheet_sections.specs.Rows.{copies, section_line}
 use Rattle.plan_kinds.specs.declared.Plan.{Plan}
 use Rattle.plan_kinds.specs.Regions.{left_of, behind_of}
 use Rattle.plan_kinds.proofs.Behind.{behind_left}
+use Rattle.copy_kinds.specs.declared.Ranges.{Ranges}
+use Rattle.refusals.specs.declared.TransferError.{TransferError}
 use Rattle.slices.specs.Put.{Put}
-use Rattle.slices.proofs.Puts.{put_none, put_then, put_length}
+use Rattle.slices.proofs.Puts.{put_as, put_none, put_then, put_length}
 use Rattle.sheet_lines.specs.Lines.{sheet_text, answer_text, region_text}
 use Rattle.sheet_lines.proofs.LineLaws.{sheet_few, region_few, answer_few, sheet_some, region_some, answer_some}
+use Rattle.sheet_copies.specs.CopyLines.{line_planned}
 use Rattle.sheet_copies.specs.Answers.{answer_at}
+use Rattle.sheet_listing.specs.declared.CopiesLeft.{CopiesLeft}
 use Rattle.sheet_listing.specs.declared.Lister.{Lister}
-use Rattle.sheet_listing.specs.Listing.{regions_text, no_plan, plan_answered, copy_answer, copies_text, state_with, answer_of, piece_of, next_of, text_left, Fills, Ends}
-use Rattle.sheet_listing.proofs.Pieces.{piece_ill, next_ill, piece_region, next_region, piece_copy, next_copy, piece_none, next_none}
-
--- ---- by cases on a state
-
-module _ (st : Lister) {A : Type 0}
-    (ill : st.ill ≡ true → A)
-    (region : st.ill ≡ false → 0 < left_of st.plan → A)
-    (copy : st.ill ≡ false → left_of st.plan ≤ 0 → 0 < st.left → A)
-    (none : st.ill ≡ false → left_of st.plan ≤ 0 → st.left ≤ 0 → A) where
-  by_cases : (t u v : Bool) → st.ill ≡ t → ltb 0 (left_of st.plan) ≡ u → ltb 0 st.left ≡ v → A
-  by_cases true u v a b c = ill a
-  by_cases false true v a b c = region a (ltb-true _ _ b)
-  by_cases false false true a b c = copy a (ltb-false _ _ b) (ltb-true _ _ c)
-  by_cases false false false a b c = none a (ltb-false _ _ b) (ltb-false _ _ c)
-
-  cases : A
-  cases = by_cases _ _ _ refl refl refl
+use Rattle.sheet_listing.specs.declared.Lister.TheVariants.{Ill, Copies, Ended}
+use Rattle.sheet_listing.specs.Listing.{regions_text, regions_left, plan_answered, copy_answer, copies_text, plan_left, state_with, answer_of, piece_of, next_of, text_left, Fills, Ends, Steps, Stops}
+use Rattle.sheet_listing.proofs.Pieces.{plan_left_some, plan_left_none, piece_region, next_region, piece_copy, next_copy, piece_none, next_none}
 
 -- ---- texts
-
-none_left : left_of no_plan ≤ 0
-unfolding left_of no_plan
-none_left = omega arith
 
 regions_on : (n : ℕ) (p : Plan) → 0 < n → region_text p ++ regions_text (n - 1) (behind_of p) ≡ regions_text n p
 unfolding regions_text
@@ -54,78 +40,124 @@ unfolding regions_text
 regions_none zero p h = refl
 regions_none (suc n) p h = absurd (omega arith)
 
-module _ (s ts bs : List ℕ) (st : Lister) where
+regions_left_none : (o : Option Plan) → None ≡ plan_left o → regions_left o ≡ []
+unfolding regions_left
+regions_left_none None e = refl
+regions_left_none (Some p) e = regions_none (left_of p) p (plan_left_none (Some p) e)
+
+regions_left_some : (p : Plan) → 0 < left_of p → region_text p ++ regions_left (Some (behind_of p)) ≡ regions_left (Some p)
+unfolding regions_left
+regions_left_some p h = rw (behind_left p h) (regions_on (left_of p) p h)
+
+module _ (s ts bs : List ℕ) (c : CopiesLeft) where
   abbrev rest : ℕ → ℕ → List ℕ
-  rest left at = copies_text s ts bs st.device st.total left at
+  rest left at = copies_text s ts bs c.device c.total left at
 
   copies_none : (n at : ℕ) → n ≤ 0 → rest n at ≡ []
   unfolding copies_text
   copies_none zero at h = refl
   copies_none (suc n) at h = absurd (omega arith)
 
-  copies_on : (n at : ℕ) → 0 < n → copy_answer (st.total - n) (answer_at s ts bs st.device at) ++ rest (n - 1) (section_line s copies at).next ≡ rest n at
+  copies_on : (n at : ℕ) → 0 < n → copy_answer (c.total - n) (answer_at s ts bs c.device at) ++ rest (n - 1) (section_line s copies at).next ≡ rest n at
   unfolding copies_text
   copies_on zero at h = absurd (omega arith)
   copies_on (suc n) at h = let e : suc n - 1 ≡ n = omega arith in rw e
 
-  -- ---- one step
+  -- ---- one step among copies
 
-  left_well : st.ill ≡ false → text_left s ts bs st ≡ regions_text (left_of st.plan) st.plan ++ rest st.left st.at
+  abbrev here : Lister
+  here = Copies c
+
+  left_at : (o : Option Plan) → c.plan ≡ o → text_left s ts bs here ≡ regions_left o ++ rest c.left c.at
   unfolding text_left
-  left_well a = rw a
+  left_at o e = rw e
 
-  left_with : (left at : ℕ) (p : Plan) → text_left s ts bs (state_with st left at p) ≡ regions_text (left_of p) p ++ rest left at
+  left_with : (left at : ℕ) (o : Option Plan) → text_left s ts bs (state_with c left at o) ≡ regions_left o ++ rest left at
   unfolding text_left state_with
-  left_with left at p = refl
+  left_with left at o = refl
 
-  left_ill : st.ill ≡ true → piece_of s ts bs st ++ text_left s ts bs (next_of s ts bs st) ≡ text_left s ts bs st
-  unfolding text_left
-  left_ill a =
-      let none : text_left s ts bs (state_with st 0 0 no_plan) ≡ [] = left_with 0 0 no_plan ∙ rw (regions_none (left_of no_plan) no_plan no_left, copies_none 0 0 (omega arith)) in
-      rw (← piece_ill s ts bs st a, ← next_ill s ts bs st a, none, a) (append-nil (sheet_text st.line))
+  left_region : {p : Plan} → Some p ≡ plan_left c.plan → piece_of s ts bs here ++ text_left s ts bs (next_of s ts bs here) ≡ text_left s ts bs here
+  left_region {p} is =
+      let has = plan_left_some c.plan p is in
+      rw (← piece_region s ts bs c is, ← next_region s ts bs c is, left_with c.left c.at (Some (behind_of p)), left_at (Some p) has.0)
+      (sym (append_assoc (region_text p) _ _) ∙ ap (λ (t : List ℕ). t ++ rest c.left c.at) (regions_left_some p has.1))
+
+  module _ (out : None ≡ plan_left c.plan) where
+    left_well : text_left s ts bs here ≡ rest c.left c.at
+    left_well = left_at c.plan refl ∙ rw (regions_left_none c.plan out)
+
+    left_copy : 0 < c.left → piece_of s ts bs here ++ text_left s ts bs (next_of s ts bs here) ≡ text_left s ts bs here
+    unfolding copy_answer answer_of
+    left_copy h =
+        let answer = answer_at s ts bs c.device c.at in
+        rw (← piece_copy s ts bs c out h, ← next_copy s ts bs c out h, left_with (c.left - 1) (section_line s copies c.at).next (plan_answered answer), left_well)
+        (sym (append_assoc (answer_text (c.total - c.left) answer) _ _) ∙ copies_on c.left c.at h)
+
+    pub left_none : c.left ≤ 0 → text_left s ts bs here ≡ []
+    left_none h = left_well ∙ copies_none c.left c.at h
+
+  by_cases :
+      {A : Type 0}
+      → ((p : Plan) → Some p ≡ plan_left c.plan → A)
+      → (None ≡ plan_left c.plan → 0 < c.left → A)
+      → (None ≡ plan_left c.plan → c.left ≤ 0 → A)
+      → A
+  by_cases {A} region copy none = go (plan_left c.plan) refl (ltb 0 c.left) refl
     where
-      no_left : left_of no_plan ≤ 0
-      no_left = none_left
+      go : (o : Option Plan) → o ≡ plan_left c.plan → (t : Bool) → ltb 0 c.left ≡ t → A
+      go (Some p) is t e = region p is
+      go None is true e = copy is (ltb-true _ _ e)
+      go None is false e = none is (ltb-false _ _ e)
 
-  left_region : st.ill ≡ false → 0 < left_of st.plan → piece_of s ts bs st ++ text_left s ts bs (next_of s ts bs st) ≡ text_left s ts bs st
-  left_region a h =
-      let p = st.plan in
-      let on : region_text p ++ regions_text (left_of (behind_of p)) (behind_of p) ≡ regions_text (left_of p) p = rw (behind_left p h) (regions_on (left_of p) p h) in
-      rw (← piece_region s ts bs st a h, ← next_region s ts bs st a h, left_with st.left st.at (behind_of p), left_well a)
-      (sym (append_assoc (region_text p) _ _) ∙ ap (λ (t : List ℕ). t ++ rest st.left st.at) on)
+-- ---- one step
 
-  left_copy : st.ill ≡ false → left_of st.plan ≤ 0 → 0 < st.left → piece_of s ts bs st ++ text_left s ts bs (next_of s ts bs st) ≡ text_left s ts bs st
-  unfolding copy_answer answer_of
-  left_copy a o h =
-      let answer = answer_at s ts bs st.device st.at in
-      rw (← piece_copy s ts bs st a o h, ← next_copy s ts bs st a o h, left_with (st.left - 1) (section_line s copies st.at).next (plan_answered answer), left_well a, regions_none (left_of st.plan) st.plan o)
-      (sym (append_assoc (answer_text (st.total - st.left) answer) _ _) ∙ copies_on st.left st.at h)
+module _ (s ts bs : List ℕ) where
+  pub left_on : (st : Lister) → piece_of s ts bs st ++ text_left s ts bs (next_of s ts bs st) ≡ text_left s ts bs st
+  unfolding piece_of next_of text_left
+  left_on (Ill line) = append-nil (sheet_text line)
+  left_on (Copies c) = by_cases s ts bs c (λ p is. left_region s ts bs c is) (λ out h. left_copy s ts bs c out h) (λ out h. rw (← piece_none s ts bs c out h, ← next_none s ts bs c out h))
+  left_on Ended = refl
 
-  left_none : st.ill ≡ false → left_of st.plan ≤ 0 → st.left ≤ 0 → text_left s ts bs st ≡ []
-  left_none a o h = left_well a ∙ rw (regions_none (left_of st.plan) st.plan o, copies_none st.left st.at h)
+  pub piece_few : (st : Lister) → length (piece_of s ts bs st) ≤ 1024
+  unfolding piece_of
+  piece_few (Ill line) = sheet_few line
+  piece_few (Copies c) =
+      by_cases s ts bs c
+      (λ p is. rw (← piece_region s ts bs c is) (region_few p))
+      (λ out h. rw (← piece_copy s ts bs c out h) (answer_few (c.total - c.left) (answer_of s ts bs c)))
+      (λ out h. rw (← piece_none s ts bs c out h) (omega arith))
+  piece_few Ended = omega arith
 
-  pub left_on : piece_of s ts bs st ++ text_left s ts bs (next_of s ts bs st) ≡ text_left s ts bs st
-  left_on = cases st left_ill left_region left_copy (λ a o h. rw (← piece_none s ts bs st a o h, ← next_none s ts bs st a o h))
+module _ (s ts bs : List ℕ) {l m : List ℕ} {at r : ℕ} where
+  pub steps_ill : (line : ℕ) → Put l m at (sheet_text line) r → Steps s ts bs (Ill line) l m at r Ended
+  unfolding piece_of next_of
+  steps_ill line put = record { put = put; some = omega (arith, put.next, sheet_some line); state = refl }
 
-  -- nothing is put only where nothing is left
-  pub left_off : length (piece_of s ts bs st) ≡ 0 → text_left s ts bs st ≡ []
-  left_off e =
-      cases st
-      (λ a. absurd (nothing (sheet_text st.line) (piece_ill s ts bs st a) (sheet_some st.line)))
-      (λ a h. absurd (nothing (region_text st.plan) (piece_region s ts bs st a h) (region_some st.plan)))
-      (λ a o h. absurd (nothing (answer_text (st.total - st.left) (answer_of s ts bs st)) (piece_copy s ts bs st a o h) (answer_some (st.total - st.left) (answer_of s ts bs st))))
-      left_none
-    where
-      nothing : (t : List ℕ) → t ≡ piece_of s ts bs st → 0 < length t → ⊥
-      nothing t is some = omega (arith, ap length is, e)
+  module _ (c : CopiesLeft) where
+    pub steps_region :
+        (p q : Plan) → Some p ≡ plan_left c.plan → Put l m at (region_text p) r → q ≡ behind_of p
+        → Steps s ts bs (Copies c) l m at r (Copies (record { total = c.total; left = c.left; at = c.at; device = c.device; plan = Some q }))
+    unfolding state_with
+    steps_region p q is put e =
+        record {
+          put = put_as put (piece_region s ts bs c is);
+          some = omega (arith, put.next, region_some p);
+          state = rw e (next_region s ts bs c is);
+        }
 
-  pub piece_few : length (piece_of s ts bs st) ≤ 1024
-  piece_few =
-      cases st
-      (λ a. rw (← piece_ill s ts bs st a) (sheet_few st.line))
-      (λ a h. rw (← piece_region s ts bs st a h) (region_few st.plan))
-      (λ a o h. rw (← piece_copy s ts bs st a o h) (answer_few (st.total - st.left) (answer_of s ts bs st)))
-      (λ a o h. rw (← piece_none s ts bs st a o h) (omega arith))
+    pub steps_copy :
+        (k : ℕ) (row : Line) (answer : Result (Plan × Ranges) TransferError) (left : ℕ) (o : Option Plan) → None ≡ plan_left c.plan → 0 < c.left
+        → row ≡ section_line s copies c.at → answer ≡ line_planned s ts bs c.device row → k ≡ c.total - c.left → left ≡ c.left - 1
+        → Put l m at (answer_text k answer) r → o ≡ plan_answered answer
+        → Steps s ts bs (Copies c) l m at r (Copies (record { total = c.total; left = left; at = row.next; device = c.device; plan = o }))
+    unfolding state_with answer_of answer_at
+    steps_copy k row answer left o out h er ea ek el put eo =
+        let is : answer ≡ answer_of s ts bs c = ea ∙ ap (line_planned s ts bs c.device) er in
+        record {
+          put = put_as put (rw (ek, is) (piece_copy s ts bs c out h));
+          some = omega (arith, put.next, answer_some k answer);
+          state = rw (eo, is, er, el) (next_copy s ts bs c out h);
+        }
 
 -- ---- filling
 
@@ -143,46 +175,32 @@ module _ {s ts bs : List ℕ} {first st : Lister} {l₀ l : List ℕ} {at : ℕ}
   pub filling_room : 1024 ≤ length l - at → at + 1024 ≤ length l
   filling_room h = omega (arith, f.inside)
 
-  module _ {m : List ℕ} {next : ℕ} (room : at + 1024 ≤ length l) (put : Put l m at (piece_of s ts bs st) next) where
-    pub filling_on : (q : Lister) → q ≡ next_of s ts bs st → (next ≡ at → ⊥) → Filling s ts bs first q l₀ m next
-    filling_on q e moved =
-        rw e
+  module _ {m : List ℕ} {next : ℕ} {q : Lister} (room : at + 1024 ≤ length l) (step : Steps s ts bs st l m at next q) where
+    pub filling_on : Filling s ts bs first q l₀ m next
+    filling_on =
+        rw step.state
         (record {
-          inside = omega (arith, put.next, put_length put, piece_few s ts bs st);
-          same = put_length put ∙ f.same;
+          inside = omega (arith, step.put.next, put_length step.put, piece_few s ts bs st);
+          same = put_length step.put ∙ f.same;
           fills =
               record {
                 text = f.fills.text ++ piece_of s ts bs st;
-                put = put_then f.fills.put put;
+                put = put_then f.fills.put step.put;
                 left = f.fills.left ∙ ap (λ (t : List ℕ). f.fills.text ++ t) (sym (left_on s ts bs st)) ∙ sym (append_assoc f.fills.text (piece_of s ts bs st) _);
               };
-          begun = λ z. absurd (moved (omega (arith, put.next)));
+          begun = λ z. absurd (omega (arith, step.some));
         })
 
-    pub filling_less : (next ≡ at → ⊥) → length m - next < length l - at
-    filling_less moved = omega (arith, put.next, put_length put)
+    pub filling_less : length m - next < length l - at
+    filling_less = omega (arith, step.some, step.put.next, put_length step.put, piece_few s ts bs st)
 
-    -- nothing was put: the slice is as it was, and nothing is left
-    nothing : next ≡ at → length (piece_of s ts bs st) ≡ 0
-    nothing e = omega (arith, put.next)
+  abbrev Filled : List ℕ → Type 0
+  Filled m = Fills l₀ m at (text_left s ts bs first) (text_left s ts bs st) × ((at ≤ length m) × Ends (length l₀) at (text_left s ts bs first))
 
-    unmoved : next ≡ at → m ≡ l
-    unmoved e = put.numbers ∙ empty (piece_of s ts bs st) (nothing e)
-      where
-        empty : (t : List ℕ) → length t ≡ 0 → sets l at t ≡ l
-        empty [] z = refl
-        empty (x ∷ t) z = absurd (omega arith)
+  pub filling_stops : {m : List ℕ} → Stops s ts bs st l m → Filled m
+  filling_stops stops = rw stops.1 (f.fills, (f.inside, λ r z. ap (λ (q : Lister). text_left s ts bs q) (sym (f.begun z)) ∙ stops.0))
 
-    pub filling_stops :
-        next ≡ at
-        → Fills l₀ m at (text_left s ts bs first) (text_left s ts bs st) × ((at ≤ length m) × Ends (length l₀) at (text_left s ts bs first))
-    filling_stops e =
-        let is = unmoved e in
-        (rw is f.fills, (rw is f.inside, λ r z. ap (λ (q : Lister). text_left s ts bs q) (sym (f.begun z)) ∙ left_off s ts bs st (nothing e)))
-
-  pub filling_ends :
-      length l - at < 1024
-      → Fills l₀ l at (text_left s ts bs first) (text_left s ts bs st) × ((at ≤ length l) × Ends (length l₀) at (text_left s ts bs first))
+  pub filling_ends : length l - at < 1024 → Filled l
   filling_ends full = (f.fills, (f.inside, λ r z. absurd (omega (arith, f.same))))
 
 pub fills_count : {l m : List ℕ} {n : ℕ} {a b : List ℕ} → Fills l m n a b → length a ≡ n + length b

@@ -1,17 +1,19 @@
 -- The whole listing of a sheet, from its bytes; and the state between one piece of it and the next.
-use Rattle.std.specs.Prelude.{◌≡◌, false, Result, Ok, Err, List, [], ◌++◌, ℕ, zero, suc, ◌-◌, ◌≤◌, ltb, take, None}
-use Rattle.conditions.specs.Conditions.{pick, ◌$◌}
+use Rattle.std.specs.Prelude.{◌≡◌, Result, Ok, Err, List, [], ◌++◌, ℕ, zero, suc, ◌-◌, ◌≤◌, ◌<◌, ltb, Option, Some, None}
+use Rattle.std.specs.Bool.{then_some}
+use Rattle.conditions.specs.Conditions.{pick}
 use Rattle.records.specs.declared.Device.{Device}
 use Rattle.plan_kinds.specs.declared.Plan.{Plan}
-use Rattle.plan_kinds.specs.declared.Plan.TheVariants.{Buffers}
 use Rattle.plan_kinds.specs.Regions.{left_of, behind_of}
 use Rattle.sheet_sections.specs.declared.Parts.{Parts}
 use Rattle.sheet_sections.specs.declared.SheetError.{SheetError}
 use Rattle.sheet_sections.specs.Rows.{copies, section_line}
 use Rattle.sheet_sections.specs.Sheet.{sheet_of, line_number}
-use Rattle.sheet_copies.specs.Answers.{texture_places, buffer_places, device_at, answer_at}
+use Rattle.sheet_copies.specs.Answers.{starts_of, texture_places, buffer_places, device_at, answer_at}
 use Rattle.slices.specs.Put.{Put}
+use Rattle.sheet_listing.specs.declared.CopiesLeft.{CopiesLeft}
 use Rattle.sheet_listing.specs.declared.Lister.{Lister}
+use Rattle.sheet_listing.specs.declared.Lister.TheVariants.{Ill, Copies, Ended}
 use Rattle.sheet_listing.specs.declared.Listing.{Listing}
 use Rattle.sheet_lines.specs.Lines.{piece_bytes, sheet_text, answer_text, region_text}
 use Rattle.copy_kinds.specs.declared.Ranges.{Ranges}
@@ -24,25 +26,19 @@ unfoldable pub regions_text : ℕ → Plan → List ℕ
 regions_text zero p = []
 regions_text (suc n) p = region_text p ++ regions_text n (behind_of p)
 
--- a refused copy has an empty plan
-unfoldable pub no_plan : Plan
-no_plan =
-    Buffers
-    (record {
-      region = record { src_offset = 0; dst_offset = 0; size = 0 };
-      left = 0;
-      dst_range = None;
-      src_range = None;
-      bytes_checked = 0;
-    })
+-- the lines of the regions that are left of a plan, where there is one
+unfoldable pub regions_left : Option Plan → List ℕ
+regions_left (Some p) = regions_text (left_of p) p
+regions_left None = []
 
-unfoldable pub plan_answered : Result (Plan × Ranges) TransferError → Plan
-plan_answered (Ok (p, r)) = p
-plan_answered (Err e) = no_plan
+-- a refused copy has no plan
+unfoldable pub plan_answered : Result (Plan × Ranges) TransferError → Option Plan
+plan_answered (Ok (p, r)) = Some p
+plan_answered (Err e) = None
 
 -- a copy's answer, then its regions
 unfoldable pub copy_answer : ℕ → Result (Plan × Ranges) TransferError → List ℕ
-copy_answer k a = answer_text k a ++ regions_text (left_of (plan_answered a)) (plan_answered a)
+copy_answer k a = answer_text k a ++ regions_left (plan_answered a)
 
 -- the last n of so many copies, whose lines begin at a place; ts and bs are where texture and buffer lines begin
 module _ (s ts bs : List ℕ) (device : Device) (total : ℕ) where
@@ -61,39 +57,60 @@ listing_of s = listing_from s (sheet_of s)
 
 -- ---- piece by piece
 
-unfoldable pub state_with : Lister → ℕ → ℕ → Plan → Lister
-state_with st left at plan = record { ill = false; line = 0; total = st.total; left = left; at = at; device = st.device; plan = plan }
+-- a plan of which regions are left
+unfoldable pub plan_left : Option Plan → Option Plan
+plan_left (Some p) = then_some (ltb 0 (left_of p)) p
+plan_left None = None
 
-module _ (s ts bs : List ℕ) (st : Lister) where
+unfoldable pub state_with : CopiesLeft → ℕ → ℕ → Option Plan → Lister
+state_with c left at plan = Copies (record { total = c.total; left = left; at = at; device = c.device; plan = plan })
+
+module _ (s ts bs : List ℕ) where
   -- the answer to the next copy
-  unfoldable pub answer_of : Result (Plan × Ranges) TransferError
-  answer_of = answer_at s ts bs st.device st.at
+  unfoldable pub answer_of : CopiesLeft → Result (Plan × Ranges) TransferError
+  answer_of c = answer_at s ts bs c.device c.at
 
-  -- what is put next: an ill sheet's line; a region's; a copy's answer; nothing
-  unfoldable pub piece_of : List ℕ
-  piece_of =
-      pick st.ill (sheet_text st.line) $
-      pick (ltb 0 (left_of st.plan)) (region_text st.plan) $
-      pick (ltb 0 st.left) (answer_text (st.total - st.left) answer_of) $
-      []
+  -- what is put next among copies, by the plan of which regions are left: a region's line; a copy's answer; nothing
+  unfoldable pub copies_piece : CopiesLeft → Option Plan → List ℕ
+  copies_piece c (Some p) = region_text p
+  copies_piece c None = pick (ltb 0 c.left) (answer_text (c.total - c.left) (answer_of c)) []
+
+  -- what is put next: an ill sheet's line; a piece of the copies; nothing
+  unfoldable pub piece_of : Lister → List ℕ
+  piece_of (Ill line) = sheet_text line
+  piece_of (Copies c) = copies_piece c (plan_left c.plan)
+  piece_of Ended = []
+
+  unfoldable pub copies_next : CopiesLeft → Option Plan → Lister
+  copies_next c (Some p) = state_with c c.left c.at (Some (behind_of p))
+  copies_next c None = pick (ltb 0 c.left) (state_with c (c.left - 1) (section_line s copies c.at).next (plan_answered (answer_of c))) (Copies c)
 
   -- the state after it
-  unfoldable pub next_of : Lister
-  next_of =
-      pick st.ill (state_with st 0 0 no_plan) $
-      pick (ltb 0 (left_of st.plan)) (state_with st st.left st.at (behind_of st.plan)) $
-      pick (ltb 0 st.left) (state_with st (st.left - 1) (section_line s copies st.at).next (plan_answered answer_of)) $
-      st
+  unfoldable pub next_of : Lister → Lister
+  next_of (Ill line) = Ended
+  next_of (Copies c) = copies_next c (plan_left c.plan)
+  next_of Ended = Ended
 
   -- all that is left
-  unfoldable pub text_left : List ℕ
-  text_left =
-      pick st.ill (sheet_text st.line) $
-      regions_text (left_of st.plan) st.plan ++ copies_text s ts bs st.device st.total st.left st.at
+  unfoldable pub text_left : Lister → List ℕ
+  text_left (Ill line) = sheet_text line
+  text_left (Copies c) = regions_left c.plan ++ copies_text s ts bs c.device c.total c.left c.at
+  text_left Ended = []
+
+  module _ (st : Lister) (l m : List ℕ) where
+    -- the next piece is put at a place; it is not empty
+    pub record Steps (at next : ℕ) (after : Lister) : Type 0 where
+      pub put : Put l m at (piece_of st) next
+      pub some : at < next
+      pub state : after ≡ next_of st
+
+    -- nothing is left, and nothing is put
+    abbrev pub Stops : Type 0
+    Stops = (text_left st ≡ []) × (m ≡ l)
 
 -- all that is left of a listing, which holds the places of its texture and buffer lines
 unfoldable pub rest_of : List ℕ → Listing → List ℕ
-rest_of s st = text_left s (take st.texture_count st.textures) (take st.buffer_count st.buffers) st.lister
+rest_of s st = text_left s (starts_of st.textures) (starts_of st.buffers) st.lister
 
 -- some of what was left is put at a slice's start, and nothing after it changes
 pub record Fills (l m : List ℕ) (count : ℕ) (before after : List ℕ) : Type 0 where

@@ -1,7 +1,8 @@
 -- Going through the copies until one is refused.
 -- Assumes nothing.
-use Rattle.std.specs.Prelude.{Result}
-use mathlib.Core.Path.{◌≡◌}
+use Rattle.std.specs.Prelude.{Result, Ok, Err}
+use Rattle.std.specs.Result.{is_err}
+use mathlib.Core.Path.{◌≡◌, refl}
 use mathlib.Core.Bool.{Bool, true, false, ◌||◌}
 use mathlib.Core.List.{List}
 use Prim.Native.Nat.{ℕ, suc, ◌+◌, ◌-◌, ◌≤◌, ◌<◌}
@@ -16,12 +17,18 @@ use Rattle.copy_kinds.specs.declared.Ranges.{Ranges}
 use Rattle.plan_kinds.specs.declared.Plan.{Plan}
 use Rattle.refusals.specs.declared.TransferError.{TransferError}
 
+-- an answer that is a refusal
+refused : (a : Result (Plan × Ranges) TransferError) → is_err a ≡ is_refused a
+unfolding is_refused
+refused (Ok (p, r)) = refl
+refused (Err e) = refl
+
 module _ (s ts bs : List ℕ) (device : Device) where
   module _ (count i at : ℕ) (l : Line) (a : Result (Plan × Ranges) TransferError) (t : Bool) (left : i < count)
-      (line : l ≡ section_line s copies at) (answer : a ≡ line_planned s ts bs device l) (test : t ≡ is_refused a) where
+      (line : l ≡ section_line s copies at) (answer : a ≡ line_planned s ts bs device l) (test : t ≡ is_err a) where
     step : any_refused s ts bs device (count - i) at ≡ (t || any_refused s ts bs device (count - (i + 1)) l.next)
     unfolding any_refused answer_at
-    step = let p : count - i ≡ suc (count - (i + 1)) = omega arith in rw (p, test, answer, line)
+    step = let p : count - i ≡ suc (count - (i + 1)) = omega arith in rw (p, test, refused a, answer, line)
 
     pub refused_here : t ≡ true → true ≡ any_refused s ts bs device (count - i) at
     refused_here e = rw (step, e)

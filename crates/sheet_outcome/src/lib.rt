@@ -2,12 +2,9 @@
 // What becomes of a job sheet as a whole: whether every copy is accepted.
 ghost use Rattle.std.specs.Prelude.{◌≡◌, Ok};
 ghost use Rattle.sheet_sections.specs.Sheet.{sheet_of};
-ghost use Rattle.sheet_outcome.specs.Outcome.{status_of, is_refused, any_refused, outcome_from, outcome_of};
+ghost use Rattle.sheet_outcome.specs.Outcome.{status_of, any_refused, outcome_from, outcome_of};
 
-use copy_kinds::Ranges;
-use plan_kinds::Plan;
-use refusals::TransferError;
-use sheet_copies::Sheet;
+use sheet_copies::{Places, Sheet};
 use sheet_sections::{Parts, Section};
 
 // Every copy is accepted; a copy is refused; the sheet is ill.
@@ -32,16 +29,6 @@ impl From<Outcome> for u8 {
     }
 }
 
-#[tactic(auto, unfolding(crate::specs::Outcome::is_refused))]
-fn is_refused(answer: Result<(Plan, Ranges), TransferError>) -> bool
-    ensures { result ≡ is_refused answer }
-{
-    match answer {
-        Ok((_, _)) => false,
-        Err(_) => true,
-    }
-}
-
 // Whether one of so many copies is refused, whose lines begin at a place.
 #[tactic(auto, using(crate::proofs::RefusedLaws::refused_here, crate::proofs::RefusedLaws::refused_on, crate::proofs::RefusedLaws::refused_none))]
 fn any_refused(sheet: Sheet, count: usize, first: usize) -> bool
@@ -50,7 +37,7 @@ fn any_refused(sheet: Sheet, count: usize, first: usize) -> bool
     let mut at = first;
     for _ in 0..count {
         let line = sheet_sections::read_row(sheet.text, Section::Copies, at);
-        if is_refused(sheet.plan_line(line)) {
+        if sheet.plan_line(line).is_err() {
             return true;
         }
         at = line.next;
@@ -63,19 +50,15 @@ fn good_outcome(s: &[u8], p: Parts) -> Outcome
     requires { Ok p ≡ sheet_of s.now }
     ensures { result ≡ outcome_from s.now (Ok p) }
 {
-    let t = p.textures;
-    let b = p.buffers;
-    let copies = p.copies;
-    let mut textures = [0usize; sheet_sections::MAX_RECORDS];
-    let mut buffers = [0usize; sheet_sections::MAX_RECORDS];
-    sheet_sections::find_places(s, Section::Textures, t.count, t.first, &mut textures);
-    sheet_sections::find_places(s, Section::Buffers, b.count, b.first, &mut buffers);
+    let textures = Places::find(s, Section::Textures, p.textures);
+    let buffers = Places::find(s, Section::Buffers, p.buffers);
     let sheet = Sheet {
         text: s,
-        textures: &textures[..t.count],
-        buffers: &buffers[..b.count],
+        textures: textures.as_slice(),
+        buffers: buffers.as_slice(),
         device: sheet_copies::device_at(s, p),
     };
+    let copies = p.copies;
     if any_refused(sheet, copies.count, copies.first) {
         return Outcome::Refused;
     }

@@ -18,8 +18,11 @@ use Rattle.sheet_io.specs.Progress.{place_of, has_failed}
 use Rattle.sheet_io.proofs.OutputProofs.{output_laws}
 use Rattle.sheet_calls.specs.Calls.{Sends}
 use Rattle.sheet_outcome.specs.declared.Outcome.{Outcome}
+use Rattle.sheet_outcome.specs.declared.Outcome.TheVariants.{Accepted, Refused, Ill}
+use Rattle.sheet_program.specs.declared.Status.{Status}
+use Rattle.sheet_program.specs.declared.Status.TheVariants.{Listed, NotWritten, NotRead}
 use Rattle.sheet_outcome.specs.Outcome.{status_of, outcome_of}
-use Rattle.sheet_program.specs.Program.{Delivers, all, stop, on, Lists, EveryListing, StatusFor, no_heading, no_listing, listed}
+use Rattle.sheet_program.specs.Program.{Delivers, all, stop, on, Lists, EveryListing, number_of, StatusFor, no_heading, no_listing, listed}
 
 -- ---- one part
 
@@ -143,13 +146,25 @@ lists_err (Ok a) is l = cc
 lists_err (Err e) is l = l
 
 module _ (s : List ℕ) {heading : List ℕ} {A : Type 0} where
-  pub unheaded : (r : Result A Error) → Sends heading false → OnErr r (StatusFor s heading 3)
+  pub unheaded : (r : Result A Error) → Sends heading false → OnErr r (StatusFor s heading NotWritten)
   unheaded (Ok a) h = tt
   unheaded (Err e) h = no_heading h
 
-  pub unlisted : (r : Result A Error) → Sends heading true → Lists s (is_ok r) → OnErr r (StatusFor s heading 3)
+  pub unlisted : (r : Result A Error) → Sends heading true → Lists s (is_ok r) → OnErr r (StatusFor s heading NotWritten)
   unlisted (Ok a) h l = tt
   unlisted (Err e) h l = no_listing h l
 
-pub status_listed : {s heading : List ℕ} (o : Outcome) (r : ℕ) → Sends heading true → Lists s true → r ≡ status_of o → o ≡ outcome_of s → StatusFor s heading r
-status_listed {s} {heading} o r h l e is = rw (e, is) (listed h l)
+pub status_listed : {s heading : List ℕ} (o : Outcome) → Sends heading true → Lists s true → o ≡ outcome_of s → StatusFor s heading (Listed o)
+status_listed o h l is = rw is (listed h l)
+
+outcome_few : (o : Outcome) → status_of o ≤ 2
+unfolding status_of
+outcome_few Accepted = omega arith
+outcome_few Refused = omega arith
+outcome_few Ill = omega arith
+
+pub number_few : (status : Status) → number_of status ≤ 4
+unfolding number_of
+number_few (Listed o) = omega (arith, outcome_few o)
+number_few NotWritten = omega arith
+number_few NotRead = omega arith

@@ -4,6 +4,8 @@ use Rattle.sheet_listing.specs.declared.Listing.{Listing}
 use Rattle.sheet_listing.specs.Listing.{rest_of, listing_of}
 use Rattle.sheet_outcome.specs.Outcome.{status_of, outcome_of}
 use Rattle.sheet_calls.specs.Calls.{Sends}
+use Rattle.sheet_program.specs.declared.Status.{Status}
+use Rattle.sheet_program.specs.declared.Status.TheVariants.{Listed, NotWritten, NotRead}
 
 -- ---- a listing
 
@@ -33,8 +35,14 @@ EveryListing = (s : List ℕ) (whole : Bool) (l : Lists s whole) → Written s l
 
 -- ---- the status
 
--- what became of the sheet where heading and listing were written whole, else 3
-pub data StatusFor (s heading : List ℕ) : ℕ → Type 0 where
-  no_heading : Sends heading false → StatusFor s heading 3
-  no_listing : Sends heading true → Lists s false → StatusFor s heading 3
-  listed : Sends heading true → Lists s true → StatusFor s heading (status_of (outcome_of s))
+-- the number by which the program says how it went
+unfoldable pub number_of : Status → ℕ
+number_of (Listed o) = status_of o
+number_of NotWritten = 3
+number_of NotRead = 4
+
+-- what became of the sheet where heading and listing were written whole
+pub data StatusFor (s heading : List ℕ) : Status → Type 0 where
+  no_heading : Sends heading false → StatusFor s heading NotWritten
+  no_listing : Sends heading true → Lists s false → StatusFor s heading NotWritten
+  listed : Sends heading true → Lists s true → StatusFor s heading (Listed (outcome_of s))

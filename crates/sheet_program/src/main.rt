@@ -5,12 +5,13 @@
 //
 // DESCRIPTOR is a digit from 3 on: the status is written there in the end, and the program itself ends with 0. LABEL comes
 // before the error of a read, HEADING before the listing.
-ghost use Rattle.std.specs.Prelude.{◌≤◌, true, length, is_ok, OnOk, OnErr};
+ghost use Rattle.std.specs.Prelude.{◌≡◌, ◌≤◌, true, length, is_ok, OnOk, OnErr};
 ghost use Rattle.sheet_lines.specs.Lines.{piece_bytes};
 ghost use Rattle.sheet_calls.specs.Calls.{Sends};
-ghost use Rattle.sheet_program.specs.Program.{Lists, StatusFor, EveryListing};
+ghost use Rattle.sheet_program.specs.Program.{Lists, number_of, StatusFor, EveryListing};
 
 use sheet_calls::Error;
+use sheet_outcome::Outcome;
 use std::env::Env;
 use std::fs::OpenOptions;
 use std::io::{Print, Write};
@@ -18,13 +19,30 @@ use std::rt::Files;
 use std::str;
 use std::time::Clock;
 
-// The status where the listing was not written whole, and where the sheet was not read.
-const NOT_WRITTEN: u8 = 3;
-
-const NOT_READ: u8 = 4;
-
 // Room for any path, and what stands around it.
 const LABEL_BYTES: usize = 8192;
+
+// How it went: what became of the sheet, whose listing was written whole; or the listing was not written whole; or the sheet was not read.
+#[derive(Clone, Copy)]
+pub enum Status {
+    Listed(Outcome),
+    NotWritten,
+    NotRead,
+}
+
+// The number by which the program says so.
+impl From<Status> for u8 {
+    ghost from_gives = { λ status number. number ≡ number_of status };
+
+    #[tactic(auto, unfolding(crate::specs::Program::number_of))]
+    fn from(status: Status) -> u8 {
+        match status {
+            Status::Listed(outcome) => outcome.into(),
+            Status::NotWritten => 3,
+            Status::NotRead => 4,
+        }
+    }
+}
 
 // Writes the listing of a sheet, by way of a buffer that has room for a piece. What cannot be written ends it at once, so that what was
 // written is the listing's beginning.
@@ -57,7 +75,7 @@ fn write_listing<W: Write, C: Clock>(
     heading: &[u8],
 ) -> Result<(), Error>
     ensures whole { OnOk result (Sends heading.now true × Lists s.now true) }
-    ensures status { OnErr result (StatusFor s.now heading.now 3) }
+    ensures status { OnErr result (StatusFor s.now heading.now Status.NotWritten) }
 {
     sheet_calls::send(output, clock, heading)?;
     let mut out = [0u8; 65536];
@@ -71,14 +89,14 @@ fn list_sheet<W: Write, P: Print, C: Clock>(
     clock: &C,
     s: &[u8],
     heading: &[u8],
-) -> u8
+) -> Status
     ensures { StatusFor s.now heading.now result }
 {
     match write_listing(output, clock, s, heading) {
-        Ok(()) => sheet_outcome::find_outcome(s).into(),
+        Ok(()) => Status::Listed(sheet_outcome::find_outcome(s)),
         Err(error) => {
             sheet_calls::say_failure(errors, &error, b"plan: the listing is not written whole");
-            NOT_WRITTEN
+            Status::NotWritten
         }
     }
 }
@@ -92,18 +110,16 @@ fn say_unread<P: Print>(to: &P, error: &Error, label: &[u8]) {
     sheet_calls::say_failure(to, error, what);
 }
 
-// How long argument i is, which is put into the room; 0 for one that is not there, or longer.
-fn argument<E: Env>(env: &E, i: usize, room: &mut [u8]) -> usize
-    ensures { result ≤ length room.new }
-{
-    env.arg(i, room).unwrap_or(0)
+// Argument i, which is put into the room; empty for one that is not there, or longer.
+fn argument<'a, E: Env>(env: &E, i: usize, room: &'a mut [u8]) -> &'a [u8] {
+    let n = env.arg(i, room).unwrap_or(0);
+    &room[..n]
 }
 
 // The digit of the descriptor for the status.
 fn status_descriptor<E: Env>(env: &E) -> Option<u8> {
     let mut word = [0u8; 8];
-    let n = argument(env, 1, &mut word);
-    match &word[..n] {
+    match argument(env, 1, &mut word) {
         [digit @ b'3'..=b'9'] => Some(*digit),
         _ => None,
     }
@@ -111,13 +127,11 @@ fn status_descriptor<E: Env>(env: &E) -> Option<u8> {
 
 // Writes the status to a descriptor, which std reaches by its name alone. Opened for reading too, a pipe that nobody reads from is not waited
 // for; what is in a file stays before the status.
-fn report<F: Files>(files: &F, descriptor: Option<u8>, status: u8) {
+#[tactic(auto, using(crate::proofs::Parts::number_few))]
+fn report<F: Files>(files: &F, descriptor: Option<u8>, status: Status) {
     let Some(digit) = descriptor else {
         return;
     };
-    if status > NOT_READ {
-        return;
-    }
     let mut name = *b"/proc/self/fd/0";
     name[14] = digit;
     let Ok(path) = str::from_utf8(&name) else {
@@ -127,29 +141,24 @@ fn report<F: Files>(files: &F, descriptor: Option<u8>, status: u8) {
     let Ok(mut file) = opened else {
         return;
     };
-    let _ = file.write_all(&[b'0' + status, b'\n']);
+    let number: u8 = status.into();
+    let _ = file.write_all(&[b'0' + number, b'\n']);
 }
 
 fn main(rt: HostRuntime) {
-    let mut label = [0u8; LABEL_BYTES];
-    let mut heading = [0u8; LABEL_BYTES];
+    let mut label_room = [0u8; LABEL_BYTES];
+    let mut heading_room = [0u8; LABEL_BYTES];
     let mut sheet = [0u8; 65537];
-    let labelled = argument(&rt, 2, &mut label);
-    let headed = argument(&rt, 3, &mut heading);
+    let label = argument(&rt, 2, &mut label_room);
+    let heading = argument(&rt, 3, &mut heading_room);
     let descriptor = status_descriptor(&rt);
     let received = sheet_calls::receive(&mut rt.stdin(), &rt, &mut sheet);
     let n = received.count;
     let status = match received.outcome {
-        Ok(()) => list_sheet(
-            &mut rt.stdout(),
-            &rt.stderr(),
-            &rt,
-            &sheet[..n],
-            &heading[..headed],
-        ),
+        Ok(()) => list_sheet(&mut rt.stdout(), &rt.stderr(), &rt, &sheet[..n], heading),
         Err(error) => {
-            say_unread(&rt.stderr(), &error, &label[..labelled]);
-            NOT_READ
+            say_unread(&rt.stderr(), &error, label);
+            Status::NotRead
         }
     };
     report(&rt, descriptor, status);

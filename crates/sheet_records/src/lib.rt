@@ -1,29 +1,20 @@
 #![tactic(auto)]
 // Records and figures from the values of a job sheet's line.
-ghost use Rattle.std.specs.Prelude.{◌≡◌, ◌<◌, ◌+◌, None, get_or};
-ghost use Rattle.sheet_records.specs.Records.{value_of, word_of, word_or_absent, size_of, extent_of, origin_of, device_of, texture_of, buffer_of, view_of, layout_of};
+ghost use Rattle.std.specs.Prelude.{◌≡◌, ◌+◌};
+ghost use Rattle.sheet_records.specs.Records.{value_of, word_of, word_or_absent, size_of, extent_of, device_of, texture_of, buffer_of, view_of, layout_of};
 
 use flags::{BufferUsages, TextureUsages};
+use formats::TextureAspect;
 use measures::{Extent3d, Origin3d, Texels};
 use records::{Buffer, Device, TexelCopyBufferLayout, TexelCopyTextureInfo, Texture};
 use sheet_fields::Line;
-
-// What stands in a field, if anything does; past the last field nothing.
-fn value_at(l: Line, i: usize) -> Option<u64>
-    ensures { result ≡ get_or l.values i None }
-{
-    if i >= l.values.len() {
-        return None;
-    }
-    l.values[i]
-}
 
 // A field that is absent is no number: it is read as 0.
 #[tactic(auto, unfolding(crate::specs::Records::value_of))]
 pub fn value_of(l: Line, i: usize) -> u64
     ensures { result ≡ value_of l i }
 {
-    value_at(l, i).unwrap_or(0)
+    l.value(i).unwrap_or(0)
 }
 
 // The fields read here hold 32 bits, so nothing is cut off.
@@ -34,11 +25,25 @@ pub fn word_of(l: Line, i: usize) -> u32
     (value_of(l, i) % 4294967296) as u32
 }
 
+// The same so many fields on; past the last field it is 0.
+fn value_on(l: Line, i: usize, k: usize) -> u64
+    ensures { result ≡ value_of l (i + k) }
+{
+    value_of(l, i.saturating_add(k))
+}
+
+#[tactic(auto, unfolding(crate::specs::Records::word_of))]
+fn word_on(l: Line, i: usize, k: usize) -> u32
+    ensures { result ≡ word_of l (i + k) }
+{
+    (value_on(l, i, k) % 4294967296) as u32
+}
+
 #[tactic(auto, unfolding(crate::specs::Records::word_or_absent))]
 fn word_or_absent(l: Line, i: usize) -> Option<u32>
     ensures { result ≡ word_or_absent l i }
 {
-    value_at(l, i).map(|value| (value % 4294967296) as u32)
+    l.value(i).map(|value| (value % 4294967296) as u32)
 }
 
 // The size of a copy between buffers, its line's last field.
@@ -46,30 +51,17 @@ fn word_or_absent(l: Line, i: usize) -> Option<u32>
 pub fn size_of(l: Line) -> Option<u64>
     ensures { result ≡ size_of l }
 {
-    value_at(l, 5)
+    l.value(5)
 }
 
 #[tactic(auto, unfolding(crate::specs::Records::extent_of))]
 pub fn extent_of(l: Line, i: usize) -> Extent3d
-    requires { i + 2 < 16 }
     ensures { result ≡ extent_of l i }
 {
     Extent3d {
         width: Texels(word_of(l, i)),
-        height: Texels(word_of(l, i + 1)),
-        depth_or_array_layers: word_of(l, i + 2),
-    }
-}
-
-#[tactic(auto, unfolding(crate::specs::Records::origin_of))]
-fn origin_of(l: Line, i: usize) -> Origin3d
-    requires { i + 2 < 16 }
-    ensures { result ≡ origin_of l i }
-{
-    Origin3d {
-        x: Texels(word_of(l, i)),
-        y: Texels(word_of(l, i + 1)),
-        z: word_of(l, i + 2),
+        height: Texels(word_on(l, i, 1)),
+        depth_or_array_layers: word_on(l, i, 2),
     }
 }
 
@@ -111,16 +103,18 @@ pub fn buffer_of(l: Line) -> Buffer
     }
 }
 
-#[tactic(auto, unfolding(crate::specs::Records::view_of))]
+#[tactic(auto, using(formats::proofs::AspectLaws::or_last), unfolding(crate::specs::Records::view_of, crate::specs::Records::origin_of))]
 pub fn view_of(l: Line, i: usize) -> TexelCopyTextureInfo
-    requires { i + 4 < 16 }
     ensures { result ≡ view_of l i }
 {
-    let origin = origin_of(l, i + 1);
-    let aspect = formats::aspect_of(value_of(l, i + 4));
+    let aspect = TextureAspect::try_from(value_on(l, i, 4)).unwrap_or(TextureAspect::Plane2);
     TexelCopyTextureInfo {
         mip_level: word_of(l, i),
-        origin,
+        origin: Origin3d {
+            x: Texels(word_on(l, i, 1)),
+            y: Texels(word_on(l, i, 2)),
+            z: word_on(l, i, 3),
+        },
         aspect,
     }
 }

@@ -1,6 +1,6 @@
 -- How the parts of a text are compared one after another.
 -- Assumes nothing.
-use mathlib.Core.Path.{◌≡◌, refl, ap, ◌∙◌}
+use mathlib.Core.Path.{◌≡◌, refl}
 use mathlib.Core.Bool.{Bool, true, false, ◌&&◌}
 use mathlib.Core.List.{List, [], ◌∷◌, ◌++◌}
 use Prim.Native.Nat.{ℕ, ◌-◌, ◌≤◌, ◌<◌}
@@ -48,9 +48,3 @@ same_none l at h = at_end l at (eqb at (length l)) h refl
 -- all of a list from a place on
 pub take_rest : (l : List ℕ) (at : ℕ) → take (length l - at) (drop at l) ≡ drop at l
 take_rest l at = take_all (length l - at) (drop at l) (omega (arith, length-drop at l))
-
-pub starts_rest : (t l : List ℕ) (at : ℕ) (r : Bool) → r ≡ starts t (take (length l - at) (drop at l)) → r ≡ starts t (drop at l)
-starts_rest t l at r e = e ∙ ap (starts t) (take_rest l at)
-
-pub same_rest : (t l : List ℕ) (at : ℕ) (r : Bool) → r ≡ same t (take (length l - at) (drop at l)) → r ≡ same t (drop at l)
-same_rest t l at r e = e ∙ ap (same t) (take_rest l at)

@@ -51,27 +51,26 @@ field_next s at kind sep f e =
 
 -- ---- an item
 
-pub record Inside (s : List ℕ) (at : ℕ) (i : Item) : Type 0 where
-  pub behind : at < i.sheet
+pub record Inside (l : List ℕ) (i : Item) : Type 0 where
+  pub behind : 0 < i.sheet
   pub sheet : i.sheet ≤ i.listing
   pub text : i.listing ≤ i.next
-  pub end : i.next ≤ length s
+  pub end : i.next ≤ length l
 
-item_inside : (s : List ℕ) (at first n m : ℕ) (i : Item) → at < first → first ≤ length s → item_of (length s) first n m ≡ Some i → Inside s at i
+item_inside : (l : List ℕ) (first n m : ℕ) (i : Item) → 0 < first → first ≤ length l → item_of (length l) first n m ≡ Some i → Inside l i
 unfolding item_of
-item_inside s at first n m i h l e =
+item_inside l first n m i h few e =
     let k = went_past _ _ _ _ _ e (none-some i) in
     let q = went_past _ _ _ _ _ k.1 (none-some i) in
-    let room : n ≤ length s - first = ltb-false _ _ k.0 in
-    let rest : m ≤ length s - (first + n) = ltb-false _ _ q.0 in
+    let room : n ≤ length l - first = ltb-false _ _ k.0 in
+    let rest : m ≤ length l - (first + n) = ltb-false _ _ q.0 in
     let is : record { sheet = first; listing = first + n; next = first + n + m } ≡ i = same_Some _ _ q.1 in
     rw (← is) (record { behind = h; sheet = omega arith; text = omega arith; end = omega arith })
 
-pub head_inside : (s : List ℕ) (at : ℕ) (i : Item) → head_of s at ≡ Some i → Inside s at i
+pub head_inside : (l : List ℕ) (i : Item) → head_of l ≡ Some i → Inside l i
 unfolding head_of
-head_inside s at i e =
-    option_and_then_some _ (field_of s (at + 6) Word 32) i (went_past _ _ _ _ _ e (none-some i)).1 λ n n-is e₁.
-    option_and_then_some _ (field_of s n.next Word 10) i e₁ λ m m-is e₂.
-    let k = field_next s (at + 6) Word 32 n n-is in
-    let l = field_next s n.next Word 10 m m-is in
-    item_inside s at m.next _ _ i (omega arith) l.1 e₂
+head_inside l i e =
+    option_and_then_some _ (field_of l 6 Word 32) i (went_past _ _ _ _ _ e (none-some i)).1 λ n n-is e₁.
+    option_and_then_some _ (field_of l n.next Word 10) i e₁ λ m m-is e₂.
+    let f = field_next l n.next Word 10 m m-is in
+    item_inside l m.next _ _ i (omega (arith, f.0)) f.1 e₂

@@ -9,13 +9,13 @@ use lib.Dec.{eqb}
 use lib.ListN.{length, take, drop, length-append, length-drop}
 use Rattle.conditions.specs.Conditions.{pick}
 use Rattle.slices.proofs.Puts.{put_take, put_length}
-use Rattle.sheet_listing.specs.Listing.{Fills, Ends, listing_of}
+use Rattle.sheet_listing.specs.Listing.{Fills, Ends}
 use Rattle.std.proofs.lemmas.List.{drop-drop}
-use Rattle.std.specs.Prelude.{Option, Some, None, Result, Ok, Err}
+use Rattle.std.specs.Prelude.{Some, None, Result, Ok, Err}
 use Rattle.sheet_replay.specs.declared.Counts.{Counts}
 use Rattle.sheet_replay.specs.declared.IllItem.{IllItem}
 use Rattle.sheet_replay.specs.declared.Item.{Item}
-use Rattle.sheet_replay.specs.Replay.{starts, same, Compares, Differs, differs, end_line, head_of, Replays, ended, broken, replayed}
+use Rattle.sheet_replay.specs.Replay.{starts, same, Compares, Differs, differs, end_line, head_of, sheet_in, recorded_in, Replays, ended, broken, replayed}
 use Rattle.sheet_replay.proofs.Bytes.{same_parts, starts_inside, same_none, take_rest}
 use Rattle.sheet_replay.proofs.Items.{head_inside}
 
@@ -78,41 +78,40 @@ module _ {whole left recorded : List ℕ} {at : ℕ} (c : Comparing whole left r
 
 -- ---- item by item
 
-differs_few : (s recorded : List ℕ) → differs s recorded ≤ 1
-unfolding differs
-differs_few s recorded = few (same (listing_of s) recorded)
-  where
-    few : (t : Bool) → pick t 0 1 ≤ 1
-    few true = omega arith
-    few false = omega arith
-
 -- what the rest of the list gives, the whole gives
-pub record Replaying (s : List ℕ) (at items differ : ℕ) : Type 0 where
-  pub inside : at ≤ length s
-  pub few : items ≤ at
+pub record Replaying (s l : List ℕ) (items differ : ℕ) : Type 0 where
+  pub few : items + length l ≤ length s
   pub fewer : differ ≤ items
-  pub rest : (v : Result Counts IllItem) → Replays s at items differ v → Replays s 0 0 0 v
+  pub rest : (v : Result Counts IllItem) → Replays l items differ v → Replays s 0 0 v
 
-pub replaying_starts : (s : List ℕ) → Replaying s 0 0 0
-replaying_starts s = record { inside = omega arith; few = omega arith; fewer = omega arith; rest = λ v r. r }
+pub replaying_starts : (s : List ℕ) → Replaying s s 0 0
+replaying_starts s = record { few = omega arith; fewer = omega arith; rest = λ v r. r }
 
-module _ {s : List ℕ} {at items differ : ℕ} (r : Replaying s at items differ) (end : Bool) (is-end : end ≡ same end_line (drop at s)) where
-  pub replaying_ends : end ≡ true → Replays s 0 0 0 (Ok (record { items = items; differ = differ })) × (items ≤ length s)
-  replaying_ends e = (r.rest _ (ended (sym is-end ∙ e)), omega (arith, r.few, r.inside))
+module _ {s l : List ℕ} {items differ : ℕ} (r : Replaying s l items differ) where
+  pub replaying_ends : true ≡ same end_line l → Replays s 0 0 (Ok (record { items = items; differ = differ })) × (items ≤ length s)
+  replaying_ends e = (r.rest _ (ended (sym e)), omega (arith, r.few))
 
-  module _ (go : end ≡ false) (h : Option Item) (is : h ≡ head_of s at) where
-    pub replaying_breaks : h ≡ None → Replays s 0 0 0 (Err (record { before = record { items = items; differ = differ } })) × (items ≤ length s)
-    replaying_breaks e = (r.rest _ (broken (sym is-end ∙ go) (sym is ∙ e)), omega (arith, r.few, r.inside))
+  module _ (goes_on : false ≡ same end_line l) where
+    pub replaying_breaks : None ≡ head_of l → Replays s 0 0 (Err (record { before = record { items = items; differ = differ } })) × (items ≤ length s)
+    replaying_breaks e = (r.rest _ (broken (sym goes_on) (sym e)), omega (arith, r.few))
 
     pub replaying_on :
-        (i : Item) (d : ℕ) → h ≡ Some i → d ≡ differs (take (i.listing - i.sheet) (drop i.sheet s)) (take (i.next - i.listing) (drop i.listing s))
-        → Replaying s i.next (items + 1) (differ + d)
-    replaying_on i d e f =
-        let k = head_inside s at i (sym is ∙ e) in
-        let one = differs_few (take (i.listing - i.sheet) (drop i.sheet s)) (take (i.next - i.listing) (drop i.listing s)) in
-        record {
-          inside = k.end;
-          few = omega (arith, r.few, k.behind, k.sheet, k.text);
-          fewer = omega (arith, r.fewer, f, one);
-          rest = λ v q. r.rest v (replayed (sym is-end ∙ go) (sym is ∙ e) (subst (λ (n : ℕ). Replays s i.next (items + 1) (differ + n) v) f q));
-        }
+        (i : Item) → Some i ≡ head_of l → (d : Bool) → d ≡ differs (sheet_in l i) (recorded_in l i)
+        → Replaying s (take (length l - i.next) (drop i.next l)) (items + 1) (pick d (differ + 1) differ)
+    replaying_on i e d f =
+        let k = head_inside l i (sym e) in
+        rw (take_rest l i.next)
+        (record {
+          few = omega (arith, r.few, k.behind, k.sheet, k.text, k.end, length-drop i.next l);
+          fewer = fewer_on d;
+          rest = λ v q. r.rest v (replayed (sym goes_on) (sym e) (subst (λ (t : Bool). Replays (drop i.next l) (items + 1) (pick t (differ + 1) differ) v) f q));
+        })
+      where
+        fewer_on : (d : Bool) → pick d (differ + 1) differ ≤ items + 1
+        fewer_on true = omega (arith, r.fewer)
+        fewer_on false = omega (arith, r.fewer)
+
+pub rest_less : (l : List ℕ) (i : Item) → Some i ≡ head_of l → length (take (length l - i.next) (drop i.next l)) < length l
+rest_less l i e =
+    let k = head_inside l i (sym e) in
+    rw (take_rest l i.next) (omega (arith, length-drop i.next l, k.behind, k.sheet, k.text, k.end))

@@ -10,6 +10,8 @@ use Rattle.sheet_listing.specs.Listing.{listing_of}
 use Rattle.sheet_replay.specs.declared.Counts.{Counts}
 use Rattle.sheet_replay.specs.declared.IllItem.{IllItem}
 use Rattle.sheet_replay.specs.declared.Item.{Item}
+use Rattle.sheet_replay.specs.declared.Message.{Message}
+use Rattle.sheet_replay.specs.declared.Message.TheVariants.{ItemDiffers, ItemsRead, ItemIll}
 
 -- what is read goes on, and the first ill field ends it
 infixr 10 ◌>>=◌
@@ -31,9 +33,9 @@ SameLaw = (a b : List ℕ) → (same a b ≡ true) ↔ (a ≡ b)
 
 -- ---- one item
 
--- 1 where the listing of a sheet is another than the recorded one
-unfoldable pub differs : List ℕ → List ℕ → ℕ
-differs s recorded = pick (same (listing_of s) recorded) 0 1
+-- the listing of a sheet is another than the recorded one
+unfoldable pub differs : List ℕ → List ℕ → Bool
+differs s recorded = not (same (listing_of s) recorded)
 
 -- some of what was left of a listing was compared with the record's start; nothing only where nothing was left
 pub record Compares (before after recorded : List ℕ) (count : ℕ) (agrees : Bool) : Type 0 where
@@ -63,32 +65,39 @@ replay_word = 115 ∷ 104 ∷ 101 ∷ 101 ∷ 116 ∷ 32 ∷ []
 unfoldable pub end_line : List ℕ
 end_line = 101 ∷ 110 ∷ 100 ∷ 10 ∷ []
 
--- an item whose head ends at a place, of n and m bytes, where so many bytes are there
+-- an item whose head ends at a place of so many bytes, of n and m bytes, where so many bytes are there
 unfoldable pub item_of : ℕ → ℕ → ℕ → ℕ → Option Item
 item_of bytes first n m =
     stop_if (ltb (bytes - first) n) None $
     stop_if (ltb (bytes - (first + n)) m) None $
     Some (record { sheet = first; listing = first + n; next = first + n + m })
 
--- the item at a place: `sheet N M`, N bytes, M bytes
-unfoldable pub head_of : List ℕ → ℕ → Option Item
-head_of s at =
-    stop_if (not (starts replay_word (drop at s))) None $
-    (field_of s (at + 6) Word 32 >>= λ n. field_of s n.next Word 10 >>= λ m. item_of (length s) m.next (unwrap_or n.value 0) (unwrap_or m.value 0))
+-- the item that the rest of a list begins with: `sheet N M`, N bytes, M bytes
+unfoldable pub head_of : List ℕ → Option Item
+head_of l =
+    stop_if (not (starts replay_word l)) None $
+    (field_of l 6 Word 32 >>= λ n. field_of l n.next Word 10 >>= λ m. item_of (length l) m.next (unwrap_or n.value 0) (unwrap_or m.value 0))
+
+-- an item's sheet and its recorded listing
+abbrev pub sheet_in : List ℕ → Item → List ℕ
+sheet_in l i = take (i.listing - i.sheet) (drop i.sheet l)
+
+abbrev pub recorded_in : List ℕ → Item → List ℕ
+recorded_in l i = take (i.next - i.listing) (drop i.listing l)
 
 -- the counts, of all items or of those before an ill one
 abbrev pub counts_of : Result Counts IllItem → Counts
 counts_of (Ok c) = c
 counts_of (Err e) = e.before
 
--- from a place on, after so many items of which so many differ
-pub data Replays (s : List ℕ) : ℕ → ℕ → ℕ → Result Counts IllItem → Type 0 where
-  ended : {at items differ : ℕ} → same end_line (drop at s) ≡ true → Replays s at items differ (Ok (record { items = items; differ = differ }))
-  broken : {at items differ : ℕ} → same end_line (drop at s) ≡ false → head_of s at ≡ None → Replays s at items differ (Err (record { before = record { items = items; differ = differ } }))
+-- the rest of a list, after so many items of which so many differ
+pub data Replays : List ℕ → ℕ → ℕ → Result Counts IllItem → Type 0 where
+  ended : {l : List ℕ} {items differ : ℕ} → same end_line l ≡ true → Replays l items differ (Ok (record { items = items; differ = differ }))
+  broken : {l : List ℕ} {items differ : ℕ} → same end_line l ≡ false → head_of l ≡ None → Replays l items differ (Err (record { before = record { items = items; differ = differ } }))
   replayed :
-      {at items differ : ℕ} {i : Item} {v : Result Counts IllItem} → same end_line (drop at s) ≡ false → head_of s at ≡ Some i
-      → Replays s i.next (items + 1) (differ + differs (take (i.listing - i.sheet) (drop i.sheet s)) (take (i.next - i.listing) (drop i.listing s))) v
-      → Replays s at items differ v
+      {l : List ℕ} {items differ : ℕ} {i : Item} {v : Result Counts IllItem} → same end_line l ≡ false → head_of l ≡ Some i
+      → Replays (drop i.next l) (items + 1) (pick (differs (sheet_in l i) (recorded_in l i)) (differ + 1) differ) v
+      → Replays l items differ v
 
 -- ---- what is printed
 
@@ -109,3 +118,8 @@ counts_text items differ =
 -- `ill list at item K`
 unfoldable pub ill_text : ℕ → List ℕ
 ill_text k = line_text (105 ∷ 108 ∷ 108 ∷ 32 ∷ 108 ∷ 105 ∷ 115 ∷ 116 ∷ 32 ∷ 97 ∷ 116 ∷ 32 ∷ 105 ∷ 116 ∷ 101 ∷ 109 ∷ []) false (k ∷ [])
+
+unfoldable pub message_text : Message → List ℕ
+message_text (ItemDiffers k) = differs_text k
+message_text (ItemsRead counts) = counts_text counts.items counts.differ
+message_text (ItemIll k) = ill_text k

@@ -1,11 +1,11 @@
 #![tactic(auto)]
 // Reads a list of sheets, each with its listing, on standard input, and lists each sheet again: prints the items whose listing
 // differs from the one on the list, and how many there are.
-ghost use Rattle.std.specs.Prelude.{◌≡◌, true, MatchOption, ◌++◌, ◌+◌, ◌≤◌, ◌<◌, length, drop};
+ghost use Rattle.std.specs.Prelude.{◌≡◌, true, MatchOption, ◌++◌, ◌+◌, ◌≤◌, ◌<◌, length};
 ghost use Rattle.slices.specs.Put.{Put};
 ghost use Rattle.sheet_text.specs.Text.{decimal};
 ghost use Rattle.sheet_listing.specs.Listing.{rest_of, listing_of};
-ghost use Rattle.sheet_replay.specs.Replay.{starts, same, SameLaw, differs, Compares, Differs, counts_of, item_of, head_of, list_bytes, replay_word, end_line, Replays, text_bytes, differs_text, counts_text, ill_text};
+ghost use Rattle.sheet_replay.specs.Replay.{starts, same, SameLaw, differs, Compares, Differs, counts_of, item_of, head_of, list_bytes, replay_word, end_line, Replays, differs_text, counts_text, ill_text, message_text};
 
 use sheet_fields::FieldKind;
 use sheet_listing::{Filled, Listing};
@@ -17,7 +17,7 @@ const SPACE: usize = 262144;
 // Room for any line that is printed.
 const TEXT_BYTES: usize = 64;
 
-// Where an item's sheet begins, where its listing does, and the place after it.
+// Where an item's sheet begins, where its listing does, and the place after it, in the rest of a list that begins with the item.
 #[derive(Clone, Copy)]
 pub struct Item {
     pub sheet: usize,
@@ -84,59 +84,64 @@ fn put_counted(out: &mut [u8], at: usize, n: u64, word: &[u8]) -> usize
     sheet_text::put_bytes(out, next, word)
 }
 
-fn put_differs(out: &mut [u8], k: u64) -> usize
-    requires { text_bytes ≤ length out.old }
+fn put_differs(out: &mut [u8; TEXT_BYTES], k: u64) -> usize
     ensures { Put out.old out.new 0 (differs_text k) result }
 {
     let next = sheet_text::put_bytes(out, 0, b"item ");
     put_counted(out, next, k, b" differs\n")
 }
 
-fn put_counts(out: &mut [u8], items: u64, differ: u64) -> usize
-    requires { text_bytes ≤ length out.old }
-    ensures { Put out.old out.new 0 (counts_text items differ) result }
+fn put_counts(out: &mut [u8; TEXT_BYTES], counts: Counts) -> usize
+    ensures { Put out.old out.new 0 (counts_text counts.items counts.differ) result }
 {
-    let next = put_counted(out, 0, items, b" sheets, ");
-    put_counted(out, next, differ, b" differ\n")
+    let next = put_counted(out, 0, counts.items, b" sheets, ");
+    put_counted(out, next, counts.differ, b" differ\n")
 }
 
 #[tactic(auto, unfolding(crate::specs::Replay::ill_text))]
-fn put_ill(out: &mut [u8], k: u64) -> usize
-    requires { text_bytes ≤ length out.old }
+fn put_ill(out: &mut [u8; TEXT_BYTES], k: u64) -> usize
     ensures { Put out.old out.new 0 (ill_text k) result }
 {
-    let ns = [k];
-    sheet_text::put_line(out, 0, b"ill list at item", false, &ns)
+    sheet_text::put_line(out, 0, b"ill list at item", false, &[k])
 }
 
-fn print_differs<P: Print>(to: &P, k: u64) {
+// A line that is printed: that an item differs, how many items were read and differ, or that an item is ill.
+#[derive(Clone, Copy)]
+pub enum Message {
+    ItemDiffers(u64),
+    ItemsRead(Counts),
+    ItemIll(u64),
+}
+
+impl Message {
+    #[tactic(auto, unfolding(crate::specs::Replay::message_text))]
+    fn put(self, out: &mut [u8; TEXT_BYTES]) -> usize
+        ensures { Put out.old out.new 0 (message_text self) result }
+    {
+        match self {
+            Message::ItemDiffers(k) => put_differs(out, k),
+            Message::ItemsRead(counts) => put_counts(out, counts),
+            Message::ItemIll(k) => put_ill(out, k),
+        }
+    }
+}
+
+fn print<P: Print>(to: &P, message: Message) {
     let mut out = [0u8; TEXT_BYTES];
-    let n = put_differs(&mut out, k);
+    let n = message.put(&mut out);
     let _ = to.write_all(&out[..n]);
 }
 
-fn print_counts<P: Print>(to: &P, items: u64, differ: u64) {
-    let mut out = [0u8; TEXT_BYTES];
-    let n = put_counts(&mut out, items, differ);
-    let _ = to.write_all(&out[..n]);
-}
-
-fn print_ill<P: Print>(to: &P, k: u64) {
-    let mut out = [0u8; TEXT_BYTES];
-    let n = put_ill(&mut out, k);
-    let _ = to.write_all(&out[..n]);
-}
-
-// 1 if item k differs, and then it is printed; else 0.
+// Whether item k differs, and then it is printed.
 #[tactic(auto, unfolding(crate::specs::Replay::differs))]
-fn check_item<P: Print>(to: &P, s: &[u8], recorded: &[u8], k: u64) -> u64
+fn check_item<P: Print>(to: &P, s: &[u8], recorded: &[u8], k: u64) -> bool
     ensures { result ≡ differs s.now recorded.now }
 {
     if lists_as(s, recorded) {
-        return 0;
+        return false;
     }
-    print_differs(to, k);
-    1
+    print(to, Message::ItemDiffers(k));
+    true
 }
 
 // An item whose head ends at `first`, of n and m bytes, where so many bytes are there.
@@ -159,79 +164,74 @@ fn fit_item(length: usize, first: usize, n: usize, m: usize) -> Option<Item>
     })
 }
 
-#[tactic(auto, using(crate::proofs::Bytes::starts_rest), unfolding(crate::specs::Replay::starts, crate::specs::Replay::replay_word))]
-fn is_head(s: &[u8], at: usize) -> bool
-    requires { at ≤ length s.now }
-    ensures { result ≡ starts replay_word (drop at s.now) }
+#[tactic(auto, unfolding(crate::specs::Replay::starts, crate::specs::Replay::replay_word))]
+fn is_head(rest: &[u8]) -> bool
+    ensures { result ≡ starts replay_word rest.now }
 {
-    s[at..].starts_with(b"sheet ")
+    rest.starts_with(b"sheet ")
 }
 
+// The item that the rest of a list begins with.
 #[tactic(auto, unfolding(crate::specs::Replay::head_of, conditions::specs::Conditions::stop_if))]
-fn read_head(s: &[u8], at: usize) -> Option<Item>
-    requires at_in_bounds { at ≤ length s.now }
-    requires s_len_bound { length s.now < list_bytes }
-    ensures { result ≡ head_of s.now at }
+fn read_head(rest: &[u8]) -> Option<Item>
+    ensures { result ≡ head_of rest.now }
 {
-    if !is_head(s, at) {
+    if !is_head(rest) {
         return None;
     }
-    let n = sheet_fields::read_field(s, at + 6, FieldKind::Word, b' ')?;
-    let m = sheet_fields::read_field(s, n.next, FieldKind::Word, b'\n')?;
+    let n = sheet_fields::read_field(rest, 6, FieldKind::Word, b' ')?;
+    let m = sheet_fields::read_field(rest, n.next, FieldKind::Word, b'\n')?;
     let bytes = n.value.unwrap_or(0);
     let listed = m.value.unwrap_or(0);
-    fit_item(s.len(), m.next, bytes as usize, listed as usize)
+    fit_item(rest.len(), m.next, bytes as usize, listed as usize)
 }
 
 // The last line, after which nothing stands.
-fn is_end(s: &[u8], at: usize) -> bool
-    requires { at ≤ length s.now }
-    ensures { result ≡ same end_line (drop at s.now) }
+#[tactic(auto, unfolding(crate::specs::Replay::same, crate::specs::Replay::end_line))]
+fn is_end(rest: &[u8]) -> bool
+    ensures { result ≡ same end_line rest.now }
 {
-    b"end\n".as_slice() == &s[at..]
+    b"end\n".as_slice() == rest
 }
 
 fn replay<P: Print>(to: &P, s: &[u8]) -> Result<Counts, IllItem>
     requires { length s.now < list_bytes }
-    ensures replays { Replays s.now 0 0 0 result }
+    ensures replays { Replays s.now 0 0 result }
     ensures result_in_bounds { (counts_of result).items ≤ length s.now }
 {
-    let mut at: usize = 0;
+    let mut rest = s;
     let mut counts = Counts {
         items: 0,
         differ: 0,
     };
-    loop {
-        if is_end(s, at) {
-            return Ok(counts);
-        }
-        let Some(item) = read_head(s, at) else {
+    while !is_end(rest) {
+        let Some(item) = read_head(rest) else {
             return Err(IllItem { before: counts });
         };
         counts.items += 1;
-        counts.differ += check_item(
-            to,
-            &s[item.sheet..item.listing],
-            &s[item.listing..item.next],
-            counts.items,
-        );
-        at = item.next;
+        let sheet = &rest[item.sheet..item.listing];
+        let recorded = &rest[item.listing..item.next];
+        if check_item(to, sheet, recorded, counts.items) {
+            counts.differ += 1;
+        }
+        rest = &rest[item.next..];
     }
+    Ok(counts)
 }
 
 fn print_verdict<P: Print>(to: &P, verdict: Result<Counts, IllItem>)
     requires { (counts_of verdict).items < list_bytes }
 {
     match verdict {
-        Ok(counts) => print_counts(to, counts.items, counts.differ),
-        Err(ill) => print_ill(to, ill.before.items + 1),
+        Ok(counts) => print(to, Message::ItemsRead(counts)),
+        Err(ill) => print(to, Message::ItemIll(ill.before.items + 1)),
     }
 }
 
 // A list that fills the space may go on.
 fn run<P: Print>(to: &P, s: &[u8]) {
     if s.len() >= SPACE {
-        return print_ill(to, 1);
+        return print(to, Message::ItemIll(1));
     }
     print_verdict(to, replay(to, s))
 }

@@ -1,3 +1,4 @@
+pub mod KindLaws
 pub mod RowLaws
 pub mod SheetProofs
 pub mod PlaceLaws

@@ -1,3 +1,4 @@
+pub mod Kinds
 pub mod Rows
 pub mod Sheet
 pub mod Laws

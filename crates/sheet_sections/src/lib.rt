@@ -2,8 +2,10 @@
 // The job sheet: four sections of lines, each after its count. Nothing of it is copied: a record is found by the place of its
 // line, and read again where it is wanted.
 ghost use Rattle.std.specs.Prelude.{◌≡◌, ◌≤◌, length};
+ghost use Rattle.std.specs.Result.{result_ok};
 ghost use Rattle.std.proofs.lemmas.List.Edits.{sets};
 ghost use Rattle.sheet_fields.specs.Line.{line_of};
+ghost use Rattle.sheet_sections.specs.Kinds.{kind_number, kind_of};
 ghost use Rattle.sheet_sections.specs.Rows.{kind_at, linear_kind, copy_kinds, row_of, section_line, places_of, rows_of};
 ghost use Rattle.sheet_sections.specs.Sheet.{least_of, most_of, section_of_count, section_of, found_of, newlines, sheet_of, line_number};
 ghost use Rattle.sheet_sections.specs.Laws.{SheetLaws};
@@ -62,50 +64,85 @@ impl SheetError {
     }
 }
 
-// The kind that a copy's line begins with; 0 where none stands there.
-#[tactic(auto, unfolding(crate::specs::Rows::kind_at))]
-fn kind_at(s: &[u8], at: usize) -> u64
-    ensures { result ≡ kind_at s.now at }
-{
-    let field = sheet_fields::read_field(s, at, FieldKind::CopyKind, b' ');
-    field.and_then(|f| f.value).unwrap_or(0)
+// What a copy is between.
+#[derive(Clone, Copy)]
+pub enum CopyKind {
+    Buffers,
+    Upload,
+    Download,
+    Textures,
+    Memory,
 }
 
-#[tactic(auto, unfolding(crate::specs::Rows::linear_kind))]
-fn linear_kind(kind: u64) -> FieldKind
-    ensures { result ≡ linear_kind kind }
-{
-    if kind == 5 {
-        return FieldKind::Long;
+// A number that no kind has.
+#[derive(Clone, Copy)]
+pub struct UnknownKind(pub u64);
+
+// The kind by the number that a copy's line begins with.
+impl TryFrom<u64> for CopyKind {
+    type Error = UnknownKind;
+
+    ghost try_from_gives = { λ n kind. kind ≡ kind_of n };
+
+    #[tactic(auto, unfolding(crate::specs::Kinds::kind_of))]
+    fn try_from(n: u64) -> Result<CopyKind, UnknownKind> {
+        match n {
+            1 => Ok(CopyKind::Buffers),
+            2 => Ok(CopyKind::Upload),
+            3 => Ok(CopyKind::Download),
+            4 => Ok(CopyKind::Textures),
+            5 => Ok(CopyKind::Memory),
+            _ => Err(UnknownKind(n)),
+        }
     }
-    FieldKind::Word
+}
+
+// The kind that a copy's line begins with, if one stands there.
+#[tactic(auto, unfolding(crate::specs::Rows::kind_at, crate::specs::Kinds::kind_of))]
+fn kind_at(s: &[u8], at: usize) -> Option<CopyKind>
+    ensures { result ≡ result_ok (kind_of (kind_at s.now at)) }
+{
+    let field = sheet_fields::read_field(s, at, FieldKind::CopyKind, b' ')?;
+    CopyKind::try_from(field.value?).ok()
+}
+
+#[tactic(auto, unfolding(crate::specs::Rows::linear_kind, crate::specs::Kinds::kind_number))]
+fn linear_kind(kind: CopyKind) -> FieldKind
+    ensures { result ≡ linear_kind (kind_number kind) }
+{
+    match kind {
+        CopyKind::Memory => FieldKind::Long,
+        _ => FieldKind::Word,
+    }
 }
 
 // A copy's line, of which the kind is read already and is read again as its first field.
-#[tactic(auto, unfolding(crate::specs::Rows::copy_kinds, crate::specs::Rows::buffer_copy_kinds, crate::specs::Rows::texture_copy_kinds, crate::specs::Rows::buffer_texture_kinds))]
-fn read_copy(s: &[u8], at: usize, kind: u64) -> Option<Line>
-    ensures { result ≡ line_of s.now (copy_kinds kind) at }
+#[tactic(auto, unfolding(crate::specs::Kinds::kind_number, crate::specs::Rows::copy_kinds, crate::specs::Rows::buffer_copy_kinds, crate::specs::Rows::texture_copy_kinds, crate::specs::Rows::buffer_texture_kinds))]
+fn read_copy(s: &[u8], at: usize, kind: CopyKind) -> Option<Line>
+    ensures { result ≡ line_of s.now (copy_kinds (kind_number kind)) at }
 {
     let k = FieldKind::CopyKind;
     let w = FieldKind::Word;
     let l = FieldKind::Long;
-    let a = FieldKind::Aspect;
-    if kind == 1 {
-        return sheet_fields::read_line(s, at, &[k, w, l, w, l, FieldKind::LongOrDash]);
-    }
-    if kind == 4 {
-        return sheet_fields::read_line(s, at, &[k, w, w, w, w, w, a, w, w, w, w, w, a, w, w, w]);
-    }
     let d = FieldKind::WordOrDash;
-    sheet_fields::read_line(
-        s,
-        at,
-        &[k, linear_kind(kind), l, d, d, w, w, w, w, w, a, w, w, w],
-    )
+    let a = FieldKind::Aspect;
+    match kind {
+        CopyKind::Buffers => {
+            sheet_fields::read_line(s, at, &[k, w, l, w, l, FieldKind::LongOrDash])
+        }
+        CopyKind::Textures => {
+            sheet_fields::read_line(s, at, &[k, w, w, w, w, w, a, w, w, w, w, w, a, w, w, w])
+        }
+        CopyKind::Upload | CopyKind::Download | CopyKind::Memory => sheet_fields::read_line(
+            s,
+            at,
+            &[k, linear_kind(kind), l, d, d, w, w, w, w, w, a, w, w, w],
+        ),
+    }
 }
 
 // The line of a section at a place, if one is there.
-#[tactic(auto, unfolding(crate::specs::Rows::row_of, crate::specs::Rows::kinds_of, crate::specs::Rows::device_kinds, crate::specs::Rows::texture_kinds, crate::specs::Rows::buffer_kinds))]
+#[tactic(auto, using(crate::proofs::KindLaws::kind_ill, crate::proofs::KindLaws::kind_well), unfolding(crate::specs::Rows::row_of, crate::specs::Rows::kinds_of, crate::specs::Rows::device_kinds, crate::specs::Rows::texture_kinds, crate::specs::Rows::buffer_kinds))]
 fn find_row(s: &[u8], section: Section, at: usize) -> Option<Line>
     ensures { result ≡ row_of s.now section at }
 {
@@ -114,7 +151,7 @@ fn find_row(s: &[u8], section: Section, at: usize) -> Option<Line>
         Section::Devices => sheet_fields::read_line(s, at, &[FieldKind::Fact, FieldKind::Fact]),
         Section::Textures => sheet_fields::read_line(s, at, &[w, w, w, w, w, w, w, w]),
         Section::Buffers => sheet_fields::read_line(s, at, &[FieldKind::Long, w]),
-        Section::Copies => read_copy(s, at, kind_at(s, at)),
+        Section::Copies => read_copy(s, at, kind_at(s, at)?),
     }
 }
 

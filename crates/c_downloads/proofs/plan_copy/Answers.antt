@@ -13,4 +13,4 @@ pub returns : goal.returns
 unfolding answer decided
 returns c =
     check_passes _ _ _ c.check_aspect.ensures c.in_ok-check_aspect.was
-    (c.copy_texture_to_buffer.ensures ∙ rw (c.device_with-device.ensures, c.buffer_from-b.ensures, c.layout_from-layout.ensures, c.texture_from-t.ensures, c.view_from-v.ensures, c.size_from-s.ensures))
+    (c.copy_texture_to_buffer.ensures ∙ rw (c.device_with-device.ensures, c.buffer_from-b.ensures, c.layout_from-layout.ensures, c.texture_from.ensures, c.view_from.ensures, c.size_from-s.ensures))

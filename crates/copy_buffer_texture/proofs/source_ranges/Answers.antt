@@ -4,9 +4,9 @@ use Rattle.copy_buffer_texture.specs.declared.UploadSource.{UploadSource}
 use Rattle.copy_buffer_texture.specs.Plan.{source_ranges}
 use Rattle.copy_buffer_texture.proofs.source_ranges.Goals as goal
 
-pub handle_buffer_init-requires : goal.handle_buffer_init-requires
+pub invariant_of-span : goal.invariant_of-span
 unfolding source_ranges
-handle_buffer_init-requires c = let e = c.requires in rw c.in-Buffer.is at e
+invariant_of-span c = record { low = let e = c.requires in rw c.in-Buffer.is at e }
 
 pub returns-in-Buffer : goal.returns-in-Buffer
 unfolding source_ranges

@@ -23,4 +23,4 @@ unfolding buffer_copy_staged
 returns c =
     by_copy_law _ _ _ _ _ _ _ _ _ $
     read_goes _ _ c.check_buffer.ensures c.in_ok-src.was $
-    read_goes _ _ c.check_buffer-2.ensures c.in_ok-dst.was c.copy_usable.ensures
+    read_goes _ _ c.check_buffer-2.ensures c.in_ok-dst.was c.usable.ensures

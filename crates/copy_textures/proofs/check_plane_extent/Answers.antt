@@ -8,10 +8,10 @@ use Rattle.copy_textures.proofs.check_plane_extent.Goals as goal
 pub returns-in_err-check_dimension : goal.returns-in_err-check_dimension
 unfolding plane_checks decided
 returns-in_err-check_dimension c =
-    rule_hands _ _ _ (rw (← c.source_of-source.ensures, ← c.plane_width-width.ensures) c.check_dimension.ensures) c.in_err-check_dimension.was c.from_residual.ensures.1
+    rule_hands _ _ _ (rw (← c.subject_of-source.ensures, ← c.plane_width.ensures) c.check_dimension.ensures) c.in_err-check_dimension.was c.from_residual.ensures.1
 
 pub returns-in_err-check_dimension-2 : goal.returns-in_err-check_dimension-2
 unfolding plane_checks decided
 returns-in_err-check_dimension-2 c =
-    rule_passes _ _ _ (rw (← c.source_of-source.ensures, ← c.plane_width-width.ensures) c.check_dimension.ensures) c.in_ok-check_dimension.was $
-    rule_hands _ _ _ (rw (← c.source_of-source.ensures, ← c.plane_height-height.ensures) c.check_dimension-2.ensures) c.in_err-check_dimension-2.was c.from_residual-in_err-check_dimension-2.ensures.1
+    rule_passes _ _ _ (rw (← c.subject_of-source.ensures, ← c.plane_width.ensures) c.check_dimension.ensures) c.in_ok-check_dimension.was $
+    rule_hands _ _ _ (rw (← c.subject_of-source.ensures, ← c.plane_height.ensures) c.check_dimension-2.ensures) c.in_err-check_dimension-2.was c.from_residual-in_err-check_dimension-2.ensures.1

@@ -1,5 +1,5 @@
 -- What the check does not find alone for `format_row`.
-use mathlib.Core.Path.{sym, ◌∙◌}
+use mathlib.Core.Path.{sym}
 use Prim.Native.Nat.{◌≤◌}
 use lib.ListN.{get_or-eq_default}
 use native.Mathlib.Omega.{arith}
@@ -11,4 +11,4 @@ pub returns-in_default : goal.returns-in_default
 unfolding formats format_row
 returns-in_default c =
     let past : 22 ≤ c.args.format = omega arith in
-    c.planar-in_default.ensures ∙ sym (get_or-eq_default formats unknown past)
+    sym (get_or-eq_default formats unknown past)

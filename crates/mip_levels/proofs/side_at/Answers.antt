@@ -1,7 +1,6 @@
 -- What the check does not find alone for `side_at`.
 use mathlib.Core.Path.{sym}
 use native.Mathlib.Omega.{arith}
-use native.Mathlib.Nat.{pos_of_ne-zero}
 use borrow.Author.Rules.{rules}
 use Rattle.mip_levels.specs.Level.{side_at}
 use Rattle.mip_levels.proofs.Halving.{halved_is, past}
@@ -10,10 +9,6 @@ use Rattle.mip_levels.proofs.side_at.Goals as goal
 pub returns-then-level-ge32 : goal.returns-then-level-ge32
 returns-then-level-ge32 c = sym (past c.args.n c.args.level (search rules) c.if-level-ge32.true)
 
-pub returns-then-halved-eq0 : goal.returns-then-halved-eq0
+pub returns : goal.returns
 unfolding side_at
-returns-then-halved-eq0 c = let a = c.args in omega (arith, halved_is a.n a.level)
-
-pub returns-else-halved-eq0 : goal.returns-else-halved-eq0
-unfolding side_at
-returns-else-halved-eq0 c = let a = c.args in omega (arith, halved_is a.n a.level, pos_of_ne-zero c.if-halved-eq0.false)
+returns c = let a = c.args in omega (arith, halved_is a.n a.level, c.max.ensures)

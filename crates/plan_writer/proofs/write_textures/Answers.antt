@@ -18,6 +18,6 @@ unfolding left_of numbers_left
 returns c =
     let e = c.write_each-behind.ensures in
     record {
-      result_value = restored c.args.plan.left c.args.plan c.write_each-behind.result e.value;
+      result_value = restored c.args.plan.left c.args.plan c.write_each-behind.result.0 e.value;
       out_after = e.out_after ∙ ap (λ (ns : List ℕ). sets c.args.out.now 0 ns) (numbers_from_with None c.args.plan.left c.args.plan);
     }

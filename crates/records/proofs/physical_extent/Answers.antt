@@ -8,7 +8,7 @@ use Rattle.records.proofs.physical_extent.Goals as goal
 
 pub physical_size-requires : goal.physical_size-requires
 physical_size-requires c =
-    let e = (texture_laws c.args.t.texture c.args.t.in_bounds).level_sized c.args.level in
+    let e = (texture_laws c.args.t.side.texture c.args.t.in_bounds).level_sized c.args.t.side.view.mip_level in
     let logical = c.logical_extent in
     let width : logical.result.width.0 ≤ max_side = rw logical.ensures e.width_few in
     let height : logical.result.height.0 ≤ max_side = rw logical.ensures e.height_few in

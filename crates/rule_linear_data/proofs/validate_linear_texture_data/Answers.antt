@@ -3,4 +3,4 @@ use Rattle.rule_linear_data.proofs.Staged.{by_law}
 use Rattle.rule_linear_data.proofs.validate_linear_texture_data.Goals as goal
 
 pub returns : goal.returns
-returns c = by_law _ _ _ _ _ _ _ _ c.check_linear.ensures c.dense_of.ensures
+returns c = by_law _ _ _ _ _ _ _ _ c.check.ensures c.dense_of.ensures

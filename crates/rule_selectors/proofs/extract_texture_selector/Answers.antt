@@ -1,5 +1,5 @@
 -- What the check does not find alone for `extract_texture_selector`.
-use Rattle.std.proofs.Common.{sym, refl, ◌∙◌, eq-eqb, ne_eqb}
+use Rattle.std.proofs.Common.{sym, refl, ◌∙◌, ap, eqb}
 use Rattle.refusals.specs.Order.{decided}
 use Rattle.refusals.proofs.Order.{test_stops, test_passes}
 use Rattle.rule_selectors.specs.Selector.{selector_checks, selector_checked}
@@ -7,12 +7,13 @@ use Rattle.rule_selectors.proofs.extract_texture_selector.Goals as goal
 use Rattle.rule_selectors.specs.declared.TextureCopyBase.{TextureCopyBase}
 use Rattle.rule_selectors.specs.declared.TextureSelector.{TextureSelector}
 
-pub returns-then-aspects-eq0 : goal.returns-then-aspects-eq0
+pub returns-then-eq : goal.returns-then-eq
 unfolding selector_checked selector_checks decided
-returns-then-aspects-eq0 c = test_stops (TextureSelector × TextureCopyBase) _ _ _ _ (eq-eqb _ 0 (sym c.chosen_aspects-aspects.ensures ∙ c.if-aspects-eq0.true)) refl
+returns-then-eq c =
+    test_stops (TextureSelector × TextureCopyBase) _ _ _ _ (ap (λ n. eqb n 0) (sym c.chosen_aspects-aspects.ensures) ∙ sym c.eq.ensures ∙ c.if-eq.true) refl
 
 pub returns : goal.returns
 unfolding selector_checked selector_checks decided
 returns c =
     let a = c.chosen_aspects-aspects.ensures in
-    test_passes (TextureSelector × TextureCopyBase) _ _ _ _ (ne_eqb _ 0 (λ z. c.if-aspects-eq0.false (a ∙ z))) (rw (sym a) cc)
+    test_passes (TextureSelector × TextureCopyBase) _ _ _ _ (ap (λ n. eqb n 0) (sym a) ∙ sym c.eq.ensures ∙ c.if-eq.false) (rw (sym a) cc)

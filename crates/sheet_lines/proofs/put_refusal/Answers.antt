@@ -1,18 +1,20 @@
 -- What the check does not find alone for `put_refusal`.
-use native.Mathlib.Omega.{arith}
+use mathlib.Core.Path.{ap}
 use mathlib.Core.Bool.{false}
-use Rattle.slices.proofs.Puts.{put_then}
+use mathlib.Core.List.{List}
+use Prim.Native.Nat.{ℕ}
+use native.Mathlib.Omega.{arith}
+use Rattle.slices.proofs.Puts.{put_then, put_as, put_length}
+use Rattle.sheet_text.specs.Text.{line_text}
 use Rattle.sheet_lines.specs.Lines.{refused_word, refusal_text}
-use Rattle.sheet_lines.proofs.LineLaws.{refusal_count, row_needs, row_line, copy_few, room_behind}
+use Rattle.sheet_lines.proofs.LineLaws.{refusal_count, copy_few}
 use Rattle.sheet_lines.proofs.put_refusal.Goals as goal
 
 pub put_row-requires : goal.put_row-requires
 put_row-requires c =
-    let all = row_needs refused_word false _ 6 (refusal_count _) (omega arith) _ c.refusal_row-row.ensures _ _ 135
-    (room_behind c.put_copy-a.ensures 25 1024 135 (copy_few _) c.requires (omega arith)) (omega arith) in record { count_in_bounds = all.0; count_in_bounds_2 = all.1 }
+    let copy = c.put_copy-a.ensures in
+    rw c.from.ensures (omega (arith, refusal_count c.args.why, copy_few c.args.k, copy.next, put_length copy, c.requires))
 
 pub returns : goal.returns
 unfolding refusal_text
-returns c =
-    put_then c.put_copy-a.ensures
-    (row_line refused_word false _ 6 (refusal_count _) (omega arith) _ c.refusal_row-row.ensures c.put_row.ensures)
+returns c = put_then c.put_copy-a.ensures (put_as c.put_row.ensures (ap (λ (ns : List ℕ). line_text refused_word false ns) c.from.ensures))

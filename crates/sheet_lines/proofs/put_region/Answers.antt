@@ -1,16 +1,20 @@
 -- What the check does not find alone for `put_region`.
-use mathlib.Core.Path.{refl}
+use mathlib.Core.Path.{ap}
 use mathlib.Core.Bool.{true}
+use mathlib.Core.List.{List}
+use Prim.Native.Nat.{ℕ}
+use native.Mathlib.Omega.{arith}
+use Rattle.slices.proofs.Puts.{put_as}
+use Rattle.sheet_text.specs.Text.{line_text}
 use Rattle.sheet_lines.specs.Lines.{region_word, region_text}
-use Rattle.sheet_lines.proofs.LineLaws.{numbers_few, asked_row, asked_plan, row_needs, row_line, region_fits}
+use Rattle.sheet_lines.proofs.LineLaws.{asked_numbers, asked_plan, region_fits}
 use Rattle.sheet_lines.proofs.put_region.Goals as goal
 
-pub put_row-next-requires : goal.put_row-next-requires
-put_row-next-requires c =
-    let all = row_needs region_word true _ _ refl (numbers_few _) _ (asked_row _ _ c.next-asked.ensures) _ _ 1024 c.requires (region_fits _) in record { count_in_bounds = all.0; count_in_bounds_2 = all.1 }
+pub put_asked-next-requires : goal.put_asked-next-requires
+put_asked-next-requires c = rw (asked_numbers _ _ c.next-asked.ensures) (omega (arith, c.requires, region_fits c.args.plan))
 
 pub returns : goal.returns
 unfolding region_text
 returns c =
-    let e = c.next-asked.ensures in
-    record { put = row_line region_word true _ _ refl (numbers_few _) _ (asked_row _ _ e) c.put_row-next.ensures; plan_value = asked_plan _ _ e }
+    let asked = c.next-asked.ensures in
+    record { put = put_as c.put_asked-next.ensures (ap (λ (ns : List ℕ). line_text region_word true ns) (asked_numbers _ _ asked)); plan_value = asked_plan _ _ asked }

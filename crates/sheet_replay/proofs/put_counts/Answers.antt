@@ -5,7 +5,7 @@ use Rattle.sheet_replay.proofs.Prints.{counts_room}
 use Rattle.sheet_replay.proofs.put_counts.Goals as goal
 
 pub put_counted-requires : goal.put_counted-requires
-put_counted-requires c = counts_room _ _ c.put_counted-next.ensures c.requires (omega arith)
+put_counted-requires c = counts_room _ _ c.put_counted-next.ensures (omega (arith, c.told-out)) (omega arith)
 
 pub returns : goal.returns
 unfolding counts_text

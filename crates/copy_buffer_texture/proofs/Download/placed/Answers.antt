@@ -5,8 +5,10 @@ use Rattle.copy_buffer_texture.specs.Stages.{download_placed}
 use Rattle.copy_buffer_texture.proofs.Rules.{end_fits}
 use Rattle.copy_buffer_texture.proofs.Download.placed.Goals as goal
 
-pub plan-requires : goal.plan-requires
-plan-requires c = let d = c.args.self.now in end_fits _ d.layout d.t.texture.format d.view.aspect d.b.buffer Destination d.size _ d.b.in_bounds c.check_data.ensures c.in_ok-info.was
+pub invariant_of-span : goal.invariant_of-span
+invariant_of-span c =
+    let d = c.args.self.now in
+    record { low = end_fits _ d.layout d.t.side.texture.format d.t.side.view.aspect d.b.buffer Destination d.size _ d.b.in_bounds c.check_data.ensures c.in_ok-info.was }
 
 pub returns-in_err-info : goal.returns-in_err-info
 unfolding download_placed
@@ -22,4 +24,4 @@ returns-then-not-contains c = after_goes _ c.check_data.ensures c.in_ok-info.was
 
 pub returns : goal.returns
 unfolding download_placed
-returns c = after_goes _ c.check_data.ensures c.in_ok-info.was (search copied depth 10)
+returns c = after_goes _ c.check_data.ensures c.in_ok-info.was (rw (← c.handle_buffer_init-buffer.ensures) (search copied depth 10))

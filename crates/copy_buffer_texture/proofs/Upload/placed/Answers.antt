@@ -4,8 +4,8 @@ use Rattle.copy_buffer_texture.specs.Stages.{upload_placed}
 use Rattle.copy_buffer_texture.proofs.Rules.{source_end_fits}
 use Rattle.copy_buffer_texture.proofs.Upload.placed.Goals as goal
 
-pub plan-requires : goal.plan-requires
-plan-requires c = let u = c.args.self.now in source_end_fits _ u.layout u.t.texture.format u.view.aspect u.source u.size _ u.source_checked c.check_data.ensures c.in_ok-info.was
+pub source_ranges-buffer-requires : goal.source_ranges-buffer-requires
+source_ranges-buffer-requires c = let u = c.args.self.now in source_end_fits _ u.layout u.t.side.texture.format u.t.side.view.aspect u.source u.size _ u.source_checked c.check_data.ensures c.in_ok-info.was
 
 pub returns-in_err-info : goal.returns-in_err-info
 unfolding upload_placed
@@ -17,4 +17,4 @@ returns-then-lacks_depth_fact c = after_goes _ c.check_data.ensures c.in_ok-info
 
 pub returns : goal.returns
 unfolding upload_placed
-returns c = after_goes _ c.check_data.ensures c.in_ok-info.was (search copied depth 10)
+returns c = after_goes _ c.check_data.ensures c.in_ok-info.was (rw (← c.source_ranges-buffer.ensures) (search copied depth 10))

@@ -1,13 +1,12 @@
 -- What the check does not find alone for `next`.
-use Rattle.std.proofs.Common.{eq-eqb, ne_eqb}
+use Rattle.plan_asked.proofs.Left.{one_fewer, none_left}
 use Rattle.plan_buffer_texture.specs.Asking.{next_of}
-use Rattle.conditions.specs.Conditions.{stop_if}
 use Rattle.plan_buffer_texture.proofs.BufferTexturePlan.next.Goals as goal
 
-pub returns-then-self-eq0 : goal.returns-then-self-eq0
-unfolding next_of stop_if
-returns-then-self-eq0 c = rw (eq-eqb _ _ c.if-self-eq0.true)
+pub returns-in-Some : goal.returns-in-Some
+unfolding next_of
+returns-in-Some c = one_fewer _ _ _ _ _ _ c.checked_sub.ensures c.in-Some.is (λ e. rw (c.advance.ensures e))
 
-pub returns : goal.returns
-unfolding next_of stop_if
-returns c = rw (ne_eqb _ _ c.if-self-eq0.false) (cc)
+pub returns-in-None : goal.returns-in-None
+unfolding next_of
+returns-in-None c = none_left _ _ _ _ c.checked_sub.ensures c.in-None.is
