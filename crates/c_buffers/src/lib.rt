@@ -5,6 +5,7 @@ ghost use Rattle.std.specs.Prelude.{◌≡◌};
 ghost use Rattle.c_words.specs.Words.{buffers_number, buffers_plan, buffers_ranges};
 ghost use Rattle.c_buffers.specs.Answer.{answer};
 
+use copy_buffers::BufferSide;
 use plan_buffers::BufferPlan;
 use records::Device;
 use refusals::TransferError;
@@ -32,9 +33,17 @@ fn plan_copy(
     let dst = c_records::buffer_from(dst_size, dst_usage);
     let bytes = c_records::given(has_size, size);
     let dst_index = c_records::dst_index(same_buffer);
-    copy_buffers::copy_buffer_to_buffer(
-        device, 0, src, src_offset, dst_index, dst, dst_offset, bytes,
-    )
+    let from = BufferSide {
+        index: 0,
+        buffer: src,
+        offset: src_offset,
+    };
+    let to = BufferSide {
+        index: dst_index,
+        buffer: dst,
+        offset: dst_offset,
+    };
+    copy_buffers::copy_buffer_to_buffer(device, from, to, bytes)
 }
 
 // 0 for an accepted copy, else the number of its refusal; its plan and its ranges, or the refusal's details.

@@ -5,8 +5,8 @@ ghost use Rattle.std.specs.Prelude.{◌≡◌};
 ghost use Rattle.c_words.specs.Words.{copy_number, copy_plan, copy_ranges_of};
 ghost use Rattle.c_memory_uploads.specs.Answer.{answer};
 
+use copy_buffer_texture::LinearTextureCopy;
 use plan_buffer_texture::BufferTexturePlan;
-use records::TextureSide;
 use refusals::TransferError;
 
 fn plan_copy(
@@ -23,7 +23,7 @@ fn plan_copy(
 ) -> Result<BufferTexturePlan, TransferError>
     ensures { result ≡ answer depth_texture_and_buffer_copies length offset has_bytes_per_row bytes_per_row has_rows_per_image rows_per_image texture.now view.now size.now }
 {
-    c_records::check_aspect(texture, view)?;
+    let t = c_records::side_from(texture, view)?;
     let device = c_records::device_with(depth_texture_and_buffer_copies);
     let layout = c_records::layout_from(
         offset,
@@ -32,12 +32,14 @@ fn plan_copy(
         has_rows_per_image,
         rows_per_image,
     );
-    let t = TextureSide {
-        texture: c_records::texture_from(texture),
-        view: c_records::view_from(view),
-    };
     let s = c_records::size_from(size);
-    copy_buffer_texture::copy_memory_to_texture(device, length, layout, t, s)
+    let copy = LinearTextureCopy {
+        device,
+        layout,
+        texture: t,
+        size: s,
+    };
+    copy_buffer_texture::copy_memory_to_texture(length, copy)
 }
 
 // 0 for an accepted copy, else the number of its refusal; its plan and its ranges, or the refusal's details.

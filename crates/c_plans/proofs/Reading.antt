@@ -21,7 +21,7 @@ use Rattle.plan_textures.specs.declared.CopyParts.TheVariants.{Whole, DepthStenc
 use Rattle.plan_textures.specs.Numbers.{parts_number, parts_from}
 use Rattle.plan_kinds.specs.declared.Plan.{Plan}
 use Rattle.plan_kinds.specs.declared.Plan.TheVariants.{Buffers, BufferTexture, Textures}
-use Rattle.plan_kinds.specs.Regions.{left_of, region_numbers, behind_of, regions_from, regions_left}
+use Rattle.plan_kinds.specs.Regions.{left_of, next_numbers, region_numbers, behind_of, regions_from, regions_left}
 use Rattle.plan_kinds.proofs.Ranges.{numbers_with, behind_with}
 use Rattle.c_words.specs.Words.{buffer_words, buffer_texture_words, texture_words}
 use Rattle.c_plans.specs.PlanWords.{low, option_from, base_from, extent_from, buffers_from, buffer_texture_from, textures_from}
@@ -82,7 +82,7 @@ left_bare (BufferTexture p) = refl
 left_bare (Textures p) = refl
 
 numbers_bare : (p : Plan) → region_numbers (without_ranges p) ≡ region_numbers p
-unfolding region_numbers without_ranges K.next_of L.next_of stop_if
+unfolding region_numbers next_numbers without_ranges K.next_of L.next_of stop_if
 numbers_bare (Buffers p) = by (eqb p.left 0) refl
   where
     by : (t : Bool) → eqb p.left 0 ≡ t → region_numbers (without_ranges (Buffers p)) ≡ region_numbers (Buffers p)

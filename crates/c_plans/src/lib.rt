@@ -16,17 +16,14 @@ use rule_selectors::TextureCopyBase;
 fn low_bits(word: u64) -> u32
     ensures { result ≡ low word }
 {
-    (word % 4294967296) as u32
+    (word % (1 << 32)) as u32
 }
 
 #[tactic(auto, unfolding(crate::specs::PlanWords::option_from))]
 fn option_from(word: u64) -> Option<u32>
     ensures { result ≡ option_from word }
 {
-    if word == plan_rows::ABSENT {
-        return None;
-    }
-    Some(low_bits(word))
+    (word != plan_rows::ABSENT).then_some(low_bits(word))
 }
 
 #[tactic(auto, unfolding(crate::specs::PlanWords::base_from))]

@@ -12,6 +12,7 @@ use Rattle.records.specs.declared.Buffer.{Buffer}
 use Rattle.records.specs.declared.Device.{Device}
 use Rattle.records.specs.declared.Texture.{Texture}
 use Rattle.records.specs.declared.TexelCopyTextureInfo.{TexelCopyTextureInfo}
+use Rattle.records.specs.declared.TextureSide.{TextureSide}
 use Rattle.records.specs.declared.TexelCopyBufferLayout.{TexelCopyBufferLayout}
 
 -- a value, where it is given
@@ -46,6 +47,10 @@ view_from v =
       origin = record { x = texels (get_or v 1 0); y = texels (get_or v 2 0); z = get_or v 3 0 };
       aspect = aspect_of (get_or v 4 0);
     }
+
+-- a texture and the part of it
+unfoldable pub side_from : List ℕ → List ℕ → TextureSide
+side_from t v = record { texture = texture_from t; view = view_from v }
 
 -- width, height, depth or layers
 unfoldable pub size_from : List ℕ → Extent3d

@@ -1,21 +1,21 @@
 #![tactic(auto)]
 // Records and figures from numbers, as callers in other languages hand them.
-ghost use Rattle.std.specs.Prelude.{◌≡◌, [], ◌∷◌};
+ghost use Rattle.std.specs.Prelude.{◌≡◌, [], ◌∷◌, Ok};
 ghost use Rattle.conditions.specs.Conditions.{pick};
-ghost use Rattle.refusals.specs.Order.{checked};
-ghost use Rattle.c_records.specs.CRecords.{given, buffer_from, layout_from, texture_from, view_from, size_from, device_with, aspect_check};
+ghost use Rattle.refusals.specs.Order.{decided};
+ghost use Rattle.c_records.specs.CRecords.{view_from, given, buffer_from, layout_from, texture_from, side_from, size_from, device_with, aspect_check};
 
 use flags::{BufferUsages, TextureUsages};
 use formats::TextureAspect;
 use measures::{Extent3d, Origin3d, Texels};
-use records::{Buffer, Device, TexelCopyBufferLayout, TexelCopyTextureInfo, Texture};
+use records::{Buffer, Device, TexelCopyBufferLayout, TexelCopyTextureInfo, Texture, TextureSide};
 use refusals::TransferError;
 
 // A value, where it is given.
 pub fn given<T: Copy>(is_given: bool, value: T) -> Option<T>
     ensures { result ≡ given is_given value }
 {
-    if is_given { Some(value) } else { None }
+    is_given.then_some(value)
 }
 
 pub fn buffer_from(size: u64, usage: u32) -> Buffer
@@ -63,7 +63,7 @@ pub fn texture_from(t: &[u32; 8]) -> Texture
     }
 }
 
-// Level, x, y, z, aspect. A number past the aspects, which is refused before, counts as the last.
+// Level, x, y, z, aspect. A number past the aspects, which `side_from` refuses, counts as the last.
 #[tactic(auto, using(formats::proofs::AspectLaws::or_last), unfolding(crate::specs::CRecords::view_from))]
 pub fn view_from(v: &[u32; 5]) -> TexelCopyTextureInfo
     ensures { result ≡ view_from v.now }
@@ -110,10 +110,10 @@ pub fn device_with(depth_texture_and_buffer_copies: bool) -> Device
     }
 }
 
-// A view's number past the aspects names none, of the texture.
-#[tactic(auto, using(refusals::proofs::Order::ordered, formats::proofs::AspectLaws::past_last), unfolding(refusals::specs::Order::decided))]
-pub fn check_aspect(texture: &[u32; 8], view: &[u32; 5]) -> Result<(), TransferError>
-    ensures { result ≡ checked (aspect_check texture.now view.now ∷ []) }
+// A texture and the part of it. A view's number past the aspects names none, of the texture.
+#[tactic(auto, using(refusals::proofs::Order::ordered, formats::proofs::AspectLaws::past_last), unfolding(crate::specs::CRecords::side_from, refusals::specs::Order::decided))]
+pub fn side_from(texture: &[u32; 8], view: &[u32; 5]) -> Result<TextureSide, TransferError>
+    ensures { result ≡ decided (aspect_check texture.now view.now ∷ []) (Ok (side_from texture.now view.now)) }
 {
     if TextureAspect::try_from(u64::from(view[4])).is_err() {
         return Err(TransferError::InvalidTextureAspect {
@@ -121,5 +121,8 @@ pub fn check_aspect(texture: &[u32; 8], view: &[u32; 5]) -> Result<(), TransferE
             aspect: TextureAspect::Plane2,
         });
     }
-    Ok(())
+    Ok(TextureSide {
+        texture: texture_from(texture),
+        view: view_from(view),
+    })
 }

@@ -15,7 +15,7 @@ use Rattle.plan_textures.specs.Numbers.{parts_number}
 use Rattle.plan_textures.specs.Asking as X
 use Rattle.plan_kinds.specs.declared.Plan.{Plan}
 use Rattle.plan_kinds.specs.declared.Plan.TheVariants.{Buffers, BufferTexture, Textures}
-use Rattle.plan_kinds.specs.Regions.{left_of, buffer_numbers, buffer_texture_numbers, texture_numbers, region_numbers, behind_of}
+use Rattle.plan_kinds.specs.Regions.{left_of, next_numbers, region_numbers, behind_of}
 use Rattle.c_words.specs.Words.{buffer_words, buffer_texture_words, texture_words}
 use Rattle.c_regions.specs.Regions.{words_of, left_in, buffer_region, buffer_behind, buffer_texture_region, buffer_texture_behind, with_aspects, chroma_halved, depth_or_stencil, texture_region, part_follows, part_on, texture_behind}
 use Rattle.c_regions.specs.Laws.{region_from, words_behind, NextAgrees, EveryStep}
@@ -28,7 +28,7 @@ full p aspects =
 
 module _ (p : TexturePlan) (n : p.left < 2 ^ 32) (some_left : eqb p.left 0 ≡ false) where
   by_parts : (parts : CopyParts) (first : Bool) → p.parts ≡ parts → eqb p.part 0 ≡ first → NextAgrees (Textures p)
-  unfolding region_from region_numbers words_behind words_of behind_of X.next_of stop_if texture_numbers texture_copy_numbers X.region_of X.region_as X.base_as X.size_by divided_by X.advanced X.other_part X.other_layer next_layer texture_words parts_number with_aspects chroma_halved depth_or_stencil texture_region part_follows part_on texture_behind
+  unfolding region_from region_numbers next_numbers words_behind words_of behind_of X.next_of stop_if texture_copy_numbers X.region_of X.region_as X.base_as X.size_by divided_by X.advanced X.other_part X.other_layer next_layer texture_words parts_number with_aspects chroma_halved depth_or_stencil texture_region part_follows part_on texture_behind
   by_parts Whole first e f = rw (e, some_left, mod-eq_of_lt n) (refl, refl)
   by_parts DepthStencil true e f = rw (e, f, some_left, mod-eq_of_lt n) (full p DEPTH, refl)
   by_parts DepthStencil false e f = rw (e, f, some_left, mod-eq_of_lt n) (full p STENCIL, refl)
@@ -36,7 +36,7 @@ module _ (p : TexturePlan) (n : p.left < 2 ^ 32) (some_left : eqb p.left 0 ≡ f
   by_parts Planes false e f = rw (e, f, some_left, mod-eq_of_lt n) (refl, refl)
 
 agrees : (p : Plan) → left_of p < 2 ^ 32 → eqb (left_of p) 0 ≡ false → NextAgrees p
-unfolding left_of region_from region_numbers words_behind words_of behind_of K.next_of L.next_of stop_if buffer_numbers buffer_copy_numbers buffer_texture_numbers buffer_texture_copy_numbers K.advanced L.advanced L.moved next_layer buffer_words buffer_texture_words buffer_region buffer_behind buffer_texture_region buffer_texture_behind
+unfolding left_of region_from region_numbers next_numbers words_behind words_of behind_of K.next_of L.next_of stop_if buffer_copy_numbers buffer_texture_copy_numbers K.advanced L.advanced L.moved next_layer buffer_words buffer_texture_words buffer_region buffer_behind buffer_texture_region buffer_texture_behind
 agrees (Buffers p) n some_left = rw (some_left, mod-eq_of_lt n) (refl, refl)
 agrees (BufferTexture p) n some_left = rw (some_left, mod-eq_of_lt n) (refl, refl)
 agrees (Textures p) n some_left = by_parts p n some_left p.parts (eqb p.part 0) refl refl

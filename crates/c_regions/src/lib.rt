@@ -1,16 +1,23 @@
 #![tactic(auto)]
 // The regions of a plan, for callers in C and Rust, who keep the plan as words. c_regions_c exports the functions.
-ghost use Rattle.std.specs.Prelude.{◌≡◌, ◌+◌, ◌%◌, ◌^◌, length, drop, replicate};
+ghost use Rattle.std.specs.Prelude.{◌≡◌, ◌+◌, ◌%◌, ◌^◌, length, drop, replicate, is_ok};
+ghost use Rattle.std.specs.Result.{result_unwrap_or};
+ghost use Rattle.conditions.specs.Conditions.{pick};
 ghost use Rattle.flags.specs.FormatAspects.{PLANE_1};
 ghost use Rattle.plan_writer.specs.Writing.{slots_of};
 ghost use Rattle.c_plans.specs.PlanWords.{buffers_from, buffer_texture_from, textures_from};
 ghost use Rattle.c_regions.specs.Laws.{EveryStep};
 ghost use Rattle.c_regions.specs.Regions.{if_left, next_number, buffer_region, buffer_behind, buffer_texture_region, buffer_texture_behind, with_aspects, chroma_halved, depth_or_stencil, texture_region, part_follows, part_on, texture_behind, written_number, written_words};
 
+use c_words::Words;
 use flags::FormatAspects;
+use plan_buffer_texture::BufferTexturePlan;
+use plan_buffers::BufferPlan;
 use plan_kinds::Plan;
+use plan_textures::TexturePlan;
+use refusals::TransferError;
 
-// The refusal of a slice that is too short.
+// The refusal of a slice that is too short, the one that writing has.
 const TOO_SHORT: u32 = 38;
 
 const DEPTH: u64 = FormatAspects::DEPTH.0 as u64;
@@ -24,13 +31,13 @@ const PLANE_1: u64 = FormatAspects::PLANE_1.0 as u64;
 fn regions_left(word: u64) -> u64
     ensures { result ≡ word % 2 ^ 32 }
 {
-    word % 4294967296
+    word % (1 << 32)
 }
 
 fn layer_on(layer: u64) -> u64
     ensures { result ≡ (layer + 1) % 2 ^ 32 }
 {
-    layer.wrapping_add(1) % 4294967296
+    layer.wrapping_add(1) % (1 << 32)
 }
 
 // The words go over one by one: the plan's have just been stored one by one, and a load of several would wait for those stores.
@@ -204,51 +211,47 @@ pub fn step_laws()
     ensures { EveryStep }
 {}
 
+// 0, and the words of the plan after its regions; or 38, and the words as they are, where none was written.
+fn put_behind<const N: usize>(behind: Result<[u64; N], TransferError>, plan: &mut [u64; N]) -> u32
+    ensures value { result ≡ pick (is_ok behind.entry) 0 38 }
+    ensures plan_after { plan.new ≡ result_unwrap_or behind.entry plan.old }
+{
+    match behind {
+        Ok(words) => {
+            *plan = words;
+            0
+        },
+        Err(_) => TOO_SHORT,
+    }
+}
+
 // 0, the regions left from the slice's start, and the plan after them; or 38, and nothing changed, where the slice is shorter than they are.
-#[tactic(auto, unfolding(crate::specs::Regions::written_number, crate::specs::Regions::written_words, crate::specs::Regions::words_of, plan_writer::specs::Writing::slots_of, plan_writer::specs::Writing::fits, plan_kinds::specs::Regions::left_of, plan_kinds::specs::Regions::fields_of))]
+#[tactic(auto, using(crate::proofs::Written::written), unfolding(crate::specs::Regions::written_number, crate::specs::Regions::written_words, crate::specs::Regions::words_of, plan_writer::specs::Writing::written_of))]
 pub fn copy_planner_write_buffer_copies(plan: &mut [u64; 6], regions: &mut [u64]) -> u32
     ensures value { result ≡ written_number (Plan.Buffers (buffers_from plan.old)) (length regions.old) }
     ensures regions_after { regions.new ≡ slots_of (Plan.Buffers (buffers_from plan.old)) regions.old }
     ensures plan_after { plan.new ≡ written_words plan.old (Plan.Buffers (buffers_from plan.old)) (length regions.old) }
 {
-    let w = *plan;
-    let p = c_plans::buffers_from(w);
-    if p.left as u64 * 3 > regions.len() as u64 {
-        return TOO_SHORT;
-    }
-    let behind = plan_writer::write_buffers(p, regions);
-    *plan = c_words::buffer_words(behind);
-    0
+    let behind = plan_writer::write(c_plans::buffers_from(*plan), regions);
+    put_behind(behind.map(BufferPlan::plan_words), plan)
 }
 
-#[tactic(auto, unfolding(crate::specs::Regions::written_number, crate::specs::Regions::written_words, crate::specs::Regions::words_of, plan_writer::specs::Writing::slots_of, plan_writer::specs::Writing::fits, plan_kinds::specs::Regions::left_of, plan_kinds::specs::Regions::fields_of))]
+#[tactic(auto, using(crate::proofs::Written::written), unfolding(crate::specs::Regions::written_number, crate::specs::Regions::written_words, crate::specs::Regions::words_of, plan_writer::specs::Writing::written_of))]
 pub fn copy_planner_write_buffer_texture_copies(plan: &mut [u64; 15], regions: &mut [u64]) -> u32
     ensures value { result ≡ written_number (Plan.BufferTexture (buffer_texture_from plan.old)) (length regions.old) }
     ensures regions_after { regions.new ≡ slots_of (Plan.BufferTexture (buffer_texture_from plan.old)) regions.old }
     ensures plan_after { plan.new ≡ written_words plan.old (Plan.BufferTexture (buffer_texture_from plan.old)) (length regions.old) }
 {
-    let w = *plan;
-    let p = c_plans::buffer_texture_from(w);
-    if p.left as u64 * 12 > regions.len() as u64 {
-        return TOO_SHORT;
-    }
-    let behind = plan_writer::write_buffer_textures(p, regions);
-    *plan = c_words::buffer_texture_words(behind);
-    0
+    let behind = plan_writer::write(c_plans::buffer_texture_from(*plan), regions);
+    put_behind(behind.map(BufferTexturePlan::plan_words), plan)
 }
 
-#[tactic(auto, unfolding(crate::specs::Regions::written_number, crate::specs::Regions::written_words, crate::specs::Regions::words_of, plan_writer::specs::Writing::slots_of, plan_writer::specs::Writing::fits, plan_kinds::specs::Regions::left_of, plan_kinds::specs::Regions::fields_of))]
+#[tactic(auto, using(crate::proofs::Written::written), unfolding(crate::specs::Regions::written_number, crate::specs::Regions::written_words, crate::specs::Regions::words_of, plan_writer::specs::Writing::written_of))]
 pub fn copy_planner_write_texture_copies(plan: &mut [u64; 18], regions: &mut [u64]) -> u32
     ensures value { result ≡ written_number (Plan.Textures (textures_from plan.old)) (length regions.old) }
     ensures regions_after { regions.new ≡ slots_of (Plan.Textures (textures_from plan.old)) regions.old }
     ensures plan_after { plan.new ≡ written_words plan.old (Plan.Textures (textures_from plan.old)) (length regions.old) }
 {
-    let w = *plan;
-    let p = c_plans::textures_from(w);
-    if p.left as u64 * 15 > regions.len() as u64 {
-        return TOO_SHORT;
-    }
-    let behind = plan_writer::write_textures(p, regions);
-    *plan = c_words::texture_words(behind);
-    0
+    let behind = plan_writer::write(c_plans::textures_from(*plan), regions);
+    put_behind(behind.map(TexturePlan::plan_words), plan)
 }

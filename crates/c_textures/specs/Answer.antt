@@ -2,14 +2,10 @@
 use Rattle.std.specs.Prelude.{ℕ, Bool, List, [], ◌∷◌, Result}
 use Rattle.conditions.specs.Conditions.{pick}
 use Rattle.refusals.specs.Order.{decided}
-use Rattle.records.specs.declared.TextureSide.{TextureSide}
 use Rattle.copy_textures.specs.Plan.{texture_to_texture}
-use Rattle.c_records.specs.CRecords.{texture_from, view_from, size_from, aspect_check}
+use Rattle.c_records.specs.CRecords.{side_from, size_from, aspect_check}
 use Rattle.plan_textures.specs.declared.TexturePlan.{TexturePlan}
 use Rattle.refusals.specs.declared.TransferError.{TransferError}
-
-unfoldable pub side_from : List ℕ → List ℕ → TextureSide
-side_from t v = record { texture = texture_from t; view = view_from v }
 
 abbrev pub known : Bool → List ℕ → List ℕ → List ℕ → List ℕ → List ℕ → Result TexturePlan TransferError
 known same src srcView dst dstView size =

@@ -3,21 +3,10 @@
 // which the compiler inlines the rules, but for the refusal of a range.
 ghost use Rattle.std.specs.Prelude.{◌≡◌};
 ghost use Rattle.c_words.specs.Words.{textures_number, textures_plan, textures_ranges};
-ghost use Rattle.c_textures.specs.Answer.{side_from, answer};
+ghost use Rattle.c_textures.specs.Answer.{answer};
 
 use plan_textures::TexturePlan;
-use records::TextureSide;
 use refusals::TransferError;
-
-#[tactic(auto, unfolding(crate::specs::Answer::side_from))]
-fn side_from(texture: &[u32; 8], view: &[u32; 5]) -> TextureSide
-    ensures { result ≡ side_from texture.now view.now }
-{
-    TextureSide {
-        texture: c_records::texture_from(texture),
-        view: c_records::view_from(view),
-    }
-}
 
 fn plan_copy(
     same_texture: bool,
@@ -29,10 +18,8 @@ fn plan_copy(
 ) -> Result<TexturePlan, TransferError>
     ensures { result ≡ answer same_texture src.now src_view.now dst.now dst_view.now size.now }
 {
-    c_records::check_aspect(src, src_view)?;
-    c_records::check_aspect(dst, dst_view)?;
-    let from = side_from(src, src_view);
-    let to = side_from(dst, dst_view);
+    let from = c_records::side_from(src, src_view)?;
+    let to = c_records::side_from(dst, dst_view)?;
     let dst_index = c_records::dst_index(same_texture);
     let s = c_records::size_from(size);
     copy_textures::copy_texture_to_texture(0, from, dst_index, to, s)

@@ -1,87 +1,16 @@
 #![tactic(auto)]
 // Plans, ranges and refusals as words of 64 bits, which callers in other languages keep.
 ghost use Rattle.std.proofs.Common.{rules};
-ghost use Rattle.std.specs.Prelude.{◌≡◌, [], ◌∷◌, ◌++◌, replicate, ◌≤◌, ◌-◌, ℕ, List};
-ghost use Rattle.plan_rows.specs.Rows.{base_numbers, size_numbers};
+ghost use Rattle.std.specs.Prelude.{◌≡◌, [], ◌∷◌, ◌++◌, replicate, length, ◌≤◌, ◌+◌, ◌-◌, ℕ, List, Some};
 ghost use Rattle.c_words.specs.Words.{buffer_words, buffer_texture_words, texture_words, kind_word, buffer_range_words, range_words, layers_words, buffers_range_words, copy_range_words, texture_range_words, refused_words, details_words, answer_number, answer_plan, answer_ranges};
 
 use plan_buffer_texture::BufferTexturePlan;
 use plan_buffers::BufferPlan;
-use plan_textures::TexturePlan;
+use plan_rows::Row;
+use plan_textures::{TextureCopy, TexturePlan};
 use refusals::{Refusal, TransferError};
 use rule_init_ranges::{BufferInitRange, BufferInitRanges, MemoryInitKind, TextureInitRange};
 use std::marker::Model;
-
-#[tactic(auto, unfolding(crate::specs::Words::buffer_words))]
-pub fn buffer_words(p: BufferPlan) -> [u64; 6]
-    ensures { result ≡ buffer_words p }
-{
-    let region = p.region;
-    [
-        p.left as u64,
-        p.bytes_checked,
-        region.src_offset,
-        region.dst_offset,
-        region.size,
-        0,
-    ]
-}
-
-#[tactic(auto, unfolding(crate::specs::Words::buffer_texture_words, plan_rows::specs::Rows::buffer_texture_copy_numbers))]
-pub fn buffer_texture_words(p: BufferTexturePlan) -> [u64; 15]
-    ensures { result ≡ buffer_texture_words p }
-{
-    let region = p.region;
-    let base = region.base;
-    let origin = base.origin;
-    let size = region.size;
-    [
-        p.left as u64,
-        p.bytes_checked,
-        p.stride,
-        region.offset,
-        plan_rows::or_absent(region.bytes_per_row),
-        plan_rows::or_absent(region.rows_per_image),
-        base.mip_level as u64,
-        base.array_layer as u64,
-        origin.x.0 as u64,
-        origin.y.0 as u64,
-        origin.z as u64,
-        base.aspect.0 as u64,
-        size.width.0 as u64,
-        size.height.0 as u64,
-        size.depth as u64,
-    ]
-}
-
-#[tactic(auto, unfolding(crate::specs::Words::texture_words))]
-pub fn texture_words(p: TexturePlan) -> [u64; 18]
-    ensures { result ≡ texture_words p }
-{
-    let src = p.src;
-    let dst = p.dst;
-    let size = p.size;
-    [
-        p.left as u64,
-        u64::from(p.parts),
-        p.part as u64,
-        src.mip_level as u64,
-        src.array_layer as u64,
-        src.origin.x.0 as u64,
-        src.origin.y.0 as u64,
-        src.origin.z as u64,
-        src.aspect.0 as u64,
-        dst.mip_level as u64,
-        dst.array_layer as u64,
-        dst.origin.x.0 as u64,
-        dst.origin.y.0 as u64,
-        dst.origin.z as u64,
-        dst.aspect.0 as u64,
-        size.width.0 as u64,
-        size.height.0 as u64,
-        size.depth as u64,
-    ]
-}
 
 // A range's kind, or 0 for none, its start and its end.
 #[derive(Clone, Copy)]
@@ -159,9 +88,11 @@ fn four_ranges(a: RangeWords, b: RangeWords, c: RangeWords, d: RangeWords) -> [u
     ]
 }
 
-fn given_ranges(t: TextureInitRange, b: BufferInitRanges) -> [u64; 12]
-    ensures { result ≡ layers_words t ++ (range_words b.head ++ (range_words b.whole ++ range_words b.tail)) }
+#[tactic(auto, unfolding(crate::specs::Words::copy_range_words))]
+fn copy_ranges(ranges: (TextureInitRange, BufferInitRanges)) -> [u64; 12]
+    ensures { result ≡ copy_range_words (Some ranges) }
 {
+    let (t, b) = ranges;
     four_ranges(
         RangeWords::from(t),
         range_words(b.head),
@@ -170,24 +101,12 @@ fn given_ranges(t: TextureInitRange, b: BufferInitRanges) -> [u64; 12]
     )
 }
 
-#[tactic(auto, unfolding(crate::specs::Words::copy_range_words))]
-fn copy_ranges(ranges: Option<(TextureInitRange, BufferInitRanges)>) -> [u64; 12]
-    ensures { result ≡ copy_range_words ranges }
-{
-    match ranges {
-        Some((t, b)) => given_ranges(t, b),
-        None => [0; 12],
-    }
-}
-
 #[tactic(auto, unfolding(crate::specs::Words::texture_range_words))]
-fn texture_ranges(ranges: Option<(TextureInitRange, TextureInitRange)>) -> [u64; 6]
-    ensures { result ≡ texture_range_words ranges }
+fn texture_ranges(ranges: (TextureInitRange, TextureInitRange)) -> [u64; 6]
+    ensures { result ≡ texture_range_words (Some ranges) }
 {
-    match ranges {
-        Some((s, d)) => two_ranges(RangeWords::from(s), RangeWords::from(d)),
-        None => [0; 6],
-    }
+    let (s, d) = ranges;
+    two_ranges(RangeWords::from(s), RangeWords::from(d))
 }
 
 // A refusal's details after a 0, for no region left, and zeros after them.
@@ -201,6 +120,18 @@ fn refusal_words<const N: usize>(n: Refusal) -> [u64; N]
     words[3] = n.start;
     words[4] = n.end;
     words[5] = n.limit;
+    words
+}
+
+// Three words of a plan, and a region's numbers after them.
+fn words_of<const N: usize>(head: [u64; 3], region: Row) -> [u64; N]
+    requires { N ≡ 3 + length region }
+    ensures { result ≡ head ++ region }
+{
+    let mut words = [0; N];
+    let (first, rest) = words[..].split_at_mut(3);
+    first.copy_from_slice(&head);
+    rest.copy_from_slice(region.as_slice());
     words
 }
 
@@ -225,8 +156,17 @@ impl Words<6, 6> for BufferPlan {
 
     ghost ranges = { buffers_range_words };
 
+    #[tactic(auto, unfolding(crate::specs::Words::buffer_words))]
     fn plan_words(self) -> [u64; 6] {
-        buffer_words(self)
+        let region = self.region;
+        [
+            self.left as u64,
+            self.bytes_checked,
+            region.src_offset,
+            region.dst_offset,
+            region.size,
+            0,
+        ]
     }
 
     #[tactic(auto, unfolding(crate::specs::Words::buffers_range_words))]
@@ -242,12 +182,15 @@ impl Words<15, 12> for BufferTexturePlan {
 
     ghost ranges = { λ p. copy_range_words p.ranges };
 
+    #[tactic(auto, unfolding(crate::specs::Words::buffer_texture_words, plan_rows::specs::Rows::buffer_texture_copy_numbers))]
     fn plan_words(self) -> [u64; 15] {
-        buffer_texture_words(self)
+        let head = [self.left as u64, self.bytes_checked, self.stride];
+        words_of(head, Row::from(self.region))
     }
 
+    #[tactic(auto, unfolding(crate::specs::Words::copy_range_words))]
     fn ranges_words(self) -> [u64; 12] {
-        copy_ranges(self.ranges)
+        self.ranges.map_or([0; 12], copy_ranges)
     }
 
     ghost room = { Prim.search rules };
@@ -258,12 +201,20 @@ impl Words<18, 6> for TexturePlan {
 
     ghost ranges = { λ p. texture_range_words p.ranges };
 
+    #[tactic(auto, unfolding(crate::specs::Words::texture_words, plan_rows::specs::Rows::texture_copy_numbers))]
     fn plan_words(self) -> [u64; 18] {
-        texture_words(self)
+        let head = [self.left as u64, u64::from(self.parts), self.part as u64];
+        let layer = TextureCopy {
+            src: self.src,
+            dst: self.dst,
+            size: self.size,
+        };
+        words_of(head, Row::from(layer))
     }
 
+    #[tactic(auto, unfolding(crate::specs::Words::texture_range_words))]
     fn ranges_words(self) -> [u64; 6] {
-        texture_ranges(self.ranges)
+        self.ranges.map_or([0; 6], texture_ranges)
     }
 
     ghost room = { Prim.search rules };

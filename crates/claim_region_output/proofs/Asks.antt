@@ -17,7 +17,7 @@ use Rattle.plan_buffer_texture.specs.Asking as L
 use Rattle.plan_textures.specs.Asking as X
 use Rattle.plan_kinds.specs.declared.Plan.{Plan}
 use Rattle.plan_kinds.specs.declared.Plan.TheVariants.{Buffers, BufferTexture, Textures}
-use Rattle.plan_kinds.specs.Regions.{left_of, fields_of, buffer_numbers, buffer_texture_numbers, texture_numbers, region_numbers, behind_of}
+use Rattle.plan_kinds.specs.Regions.{left_of, fields_of, next_numbers, region_numbers, behind_of}
 use Rattle.plan_kinds.proofs.Behind.{behind_left}
 use Rattle.plan_writer.specs.Writing.{numbers_from, behind_all}
 use Rattle.plan_writer.proofs.Writes.{numbers_count, behind_fields}
@@ -59,7 +59,7 @@ slot_optional (Some n) = refl
 slot_optional None = refl
 
 at_more : (p : Plan) → 0 < left_of p → (answer p ≡ region (next p)) × (region_numbers p ≡ row (next p))
-unfolding left_of answer region_numbers buffers_answer buffer_texture_answer textures_answer K.next_of L.next_of X.next_of stop_if buffer_numbers buffer_texture_numbers texture_numbers buffer_copy_numbers buffer_texture_copy_numbers texture_copy_numbers row numbers slot
+unfolding left_of answer region_numbers next_numbers buffers_answer buffer_texture_answer textures_answer K.next_of L.next_of X.next_of stop_if buffer_copy_numbers buffer_texture_copy_numbers texture_copy_numbers row numbers slot
 at_more (Buffers p) h = rw (ne_eqb p.left 0 (some h)) (refl, refl)
 at_more (BufferTexture p) h =
     rw (ne_eqb p.left 0 (some h), slot_optional p.region.bytes_per_row, slot_optional p.region.rows_per_image) (refl, refl)

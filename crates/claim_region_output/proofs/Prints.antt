@@ -8,7 +8,7 @@ use Prim.Native.Nat.{ℕ, zero, suc, ◌+◌, ◌-◌, ◌/◌, ◌%◌, ◌^◌
 use native.Mathlib.Omega.{arith}
 use borrow.Author.Tests.{ne_eqb}
 use lib.Dec.{ltb}
-use lib.ListN.{length, length-append}
+use lib.ListN.{length, take, get_or, length-append}
 use Rattle.conditions.specs.Conditions.{pick}
 use Rattle.rule_init_ranges.specs.declared.MemoryInitKind.{MemoryInitKind}
 use Rattle.rule_init_ranges.specs.declared.MemoryInitKind.TheVariants.{ImplicitlyInitialized, NeedsInitializedMemory}
@@ -104,16 +104,25 @@ range_line_lem (Some (Texture i r)) = rw (append-nil, kind_same r.kind, plain) (
 range_line_lem (Some (Buffer i r)) = rw (append-nil, kind_same r.kind, plain) (refl, refl)
 range_line_lem None = (refl, refl)
 
+-- the four slots, each by its place
+by_place : (ss : List (Option InitRange)) → flat_map range_line (take 4 ss) ≡ flat_map (λ (k : ℕ). range_line (get_or ss k None)) (0 ∷ 1 ∷ 2 ∷ 3 ∷ [])
+unfolding flat_map range_line
+by_place [] = refl
+by_place (a ∷ []) = refl
+by_place (a ∷ b ∷ []) = refl
+by_place (a ∷ b ∷ c ∷ []) = refl
+by_place (a ∷ b ∷ c ∷ d ∷ more) = refl
+
 module _ (r : Ranges) where
   range_lines_lem : ranges_text r ≡ joined (range_lines r)
   unfolding ranges_text flat_map
   range_lines_lem =
-      rw ((range_line_lem (range_at r 0)).0, (range_line_lem (range_at r 1)).0, (range_line_lem (range_at r 2)).0, (range_line_lem (range_at r 3)).0, joined_both (range_line (range_at r 0)), joined_both (range_line (range_at r 1)), joined_both (range_line (range_at r 2)), append-nil (range_line (range_at r 3)))
+      rw (by_place r.slots, (range_line_lem (range_at r 0)).0, (range_line_lem (range_at r 1)).0, (range_line_lem (range_at r 2)).0, (range_line_lem (range_at r 3)).0, joined_both (range_line (range_at r 0)), joined_both (range_line (range_at r 1)), joined_both (range_line (range_at r 2)), append-nil (range_line (range_at r 3)))
 
   range_count : count_of r ≡ length (range_lines r)
   unfolding count_of flat_map
   range_count =
-      rw (append-nil (range_line (range_at r 3)), length-append (range_line (range_at r 0)), length-append (range_line (range_at r 1)), length-append (range_line (range_at r 2)))
+      rw (by_place r.slots, append-nil (range_line (range_at r 3)), length-append (range_line (range_at r 0)), length-append (range_line (range_at r 1)), length-append (range_line (range_at r 2)))
       (omega (arith, (range_line_lem (range_at r 0)).1, (range_line_lem (range_at r 1)).1, (range_line_lem (range_at r 2)).1, (range_line_lem (range_at r 3)).1))
 
 -- ---- a copy

@@ -8,7 +8,7 @@ use native.Mathlib.Omega.{arith}
 use native.Mathlib.Nat.{mod-lt}
 use lib.Dec.{eqb}
 use lib.ListN.{length, get_or}
-use Rattle.std.specs.Prelude.{option_map, Option, Some, None, is_none, unwrap_or, Result, Ok, Err}
+use Rattle.std.specs.Prelude.{option_map, Option, Some, None, unwrap_or, Result, Ok, Err}
 use Rattle.refusals.specs.Order.{Checks, first, decided}
 use Rattle.refusals.specs.declared.TransferError.{TransferError}
 use Rattle.records.specs.declared.Device.{Device}

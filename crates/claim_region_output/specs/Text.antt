@@ -1,6 +1,6 @@
 -- The listing's text of a copy, as bytes: 01, the job sheet. Decimal text, one space between fields, no leading zeros, a
 -- newline after every line; `-` is an absent number.
-use Rattle.std.specs.Prelude.{ℕ, zero, suc, ◌+◌, ◌/◌, ◌%◌, cond, ltb, length, get_or, Option, Some, None}
+use Rattle.std.specs.Prelude.{ℕ, zero, suc, ◌+◌, ◌/◌, ◌%◌, cond, ltb, length, take, Option, Some, None}
 use Prim.Native.Char.{code}
 use Prim.Native.String as S
 use mathlib.Core.List.{List, [], ◌∷◌, ◌++◌, flat_map}
@@ -51,8 +51,9 @@ range_line (Some (Texture i r)) = line "t" (given i ∷ given r.mip_level ∷ gi
 range_line (Some (Buffer i r)) = line "b" (given i ∷ given r.start ∷ given r.end ∷ given (kind r.kind) ∷ []) ∷ []
 range_line None = []
 
+-- of the four slots
 abbrev pub range_lines : Ranges → List (List ℕ)
-range_lines r = flat_map (λ k. range_line (get_or r.slots k None)) (0 ∷ 1 ∷ 2 ∷ 3 ∷ [])
+range_lines r = flat_map range_line (take 4 r.slots)
 
 -- bytes checked, 0 between textures
 unfoldable pub checked_bytes_of : Plan → ℕ

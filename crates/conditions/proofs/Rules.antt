@@ -40,21 +40,7 @@ pub not_both : (s t : Bool) → (s && t) ≡ false → s ≡ true → t ≡ fals
 not_both true t e h = e
 not_both false t e h = let z : ◌≡◌ {A = ℕ} 0 1 = cc in absurd (omega arith)
 
--- the answer of two tests, of which the second is made only where the first does not hold
-pub or_stops : (s t x : Bool) → s ≡ true → x ≡ true → x ≡ (s || t)
-or_stops s t x h k = rw h k
-
-pub or_passes : (s t x : Bool) → s ≡ false → x ≡ t → x ≡ (s || t)
-or_passes s t x h k = rw h k
-
--- the first was the negation of a call's answer
-pub or_stops_unflag : (r s t x : Bool) → r ≡ s → not r ≡ true → x ≡ true → x ≡ (not s || t)
-or_stops_unflag r s t x p q k = or_stops (not s) t x (ap not (sym p) ∙ q) k
-
-pub or_passes_unflag : (r s t x : Bool) → r ≡ s → not r ≡ false → x ≡ t → x ≡ (not s || t)
-or_passes_unflag r s t x p q k = or_passes (not s) t x (ap not (sym p) ∙ q) k
-
--- the same of two tests that both must hold: the second is made only where the first does
+-- the answer of two tests that both must hold, of which the second is made only where the first does
 pub and_stops : (s t x : Bool) → s ≡ false → x ≡ false → x ≡ (s && t)
 and_stops s t x h k = rw h k
 
@@ -68,8 +54,6 @@ pub and_passes_unflag : (r s t x : Bool) → r ≡ s → not r ≡ false → x �
 and_passes_unflag r s t x p q k = and_passes s t x (sym p ∙ not-false r q) k
 
 pub ruleset and_lines = (lt-ltb, le-ltb, le-leb, lt-leb, eq-eqb, ne_eqb, and_stops, and_passes, and_stops_unflag, and_passes_unflag)
-
-pub ruleset or_lines = (tests, or_stops, or_passes, or_stops_unflag, or_passes_unflag)
 
 -- several tests that all hold, one by one
 abbrev pub AllTrue : List Bool → Type 0

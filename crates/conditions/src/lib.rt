@@ -1,19 +1,7 @@
 #![tactic(auto)]
-// Tests that are joined: each half is computed, and no branch is taken.
-ghost use Rattle.std.specs.Prelude.{◌≡◌, ◌&&◌, ◌||◌, [], ◌∷◌};
+// Tests that are joined: each one is computed, and no branch is taken.
+ghost use Rattle.std.specs.Prelude.{◌≡◌, ◌&&◌, [], ◌∷◌};
 ghost use Rattle.conditions.specs.Conditions.{every};
-
-pub fn both(a: bool, b: bool) -> bool
-    ensures { result ≡ (a && b) }
-{
-    a && b
-}
-
-pub fn either(a: bool, b: bool) -> bool
-    ensures { result ≡ (a || b) }
-{
-    a || b
-}
 
 // Every one of so many tests.
 #[tactic(auto, using(crate::proofs::Rules::every_begun, crate::proofs::Rules::every_goes, crate::proofs::Rules::every_ends))]

@@ -25,32 +25,19 @@ fn size_or(size: Option<u64>, left: u64) -> u64
 fn is_shared(usage: BufferUsages) -> bool
     ensures { result ≡ is_shared usage.0 }
 {
-    conditions::either(
-        usage.contains(BufferUsages::VERTEX),
-        conditions::either(
-            usage.contains(BufferUsages::UNIFORM),
-            conditions::either(
-                usage.contains(BufferUsages::INDIRECT),
-                usage.contains(BufferUsages::STORAGE),
-            ),
-        ),
-    )
+    usage.contains(BufferUsages::VERTEX)
+        | usage.contains(BufferUsages::UNIFORM)
+        | usage.contains(BufferUsages::INDIRECT)
+        | usage.contains(BufferUsages::STORAGE)
 }
 
 #[tactic(auto, unfolding(crate::specs::Plan::lacks_index_fact))]
 fn lacks_index_fact(device: Device, src: BufferUsages, dst: BufferUsages) -> bool
     ensures { result ≡ lacks_index_fact device src.0 dst.0 }
 {
-    conditions::both(
-        !device.unrestricted_index_buffer,
-        conditions::both(
-            conditions::either(
-                src.contains(BufferUsages::INDEX),
-                dst.contains(BufferUsages::INDEX),
-            ),
-            conditions::either(is_shared(src), is_shared(dst)),
-        ),
-    )
+    let index = src.contains(BufferUsages::INDEX) | dst.contains(BufferUsages::INDEX);
+    let shared = is_shared(src) | is_shared(dst);
+    !device.unrestricted_index_buffer & index & shared
 }
 
 #[tactic(auto, unfolding(measures::specs::Measure::multiple))]
@@ -60,66 +47,70 @@ fn is_aligned(n: u64) -> bool
     n % COPY_BUFFER_ALIGNMENT == 0
 }
 
-// A copy between buffers whose records were checked. They are told apart by their indices.
+// Either side of a copy: a buffer, the index by which it is told from the other, and where in it the copy begins.
+#[derive(Clone, Copy)]
+pub struct BufferSide {
+    pub index: u32,
+    pub buffer: Buffer,
+    pub offset: u64,
+}
+
+// A copy between buffers whose records were checked.
 #[derive(Clone, Copy)]
 struct Transfer {
     device: Device,
-    src_index: u32,
-    src: Buffer,
-    source_offset: u64,
-    dst_index: u32,
-    dst: Buffer,
-    destination_offset: u64,
+    src: BufferSide,
+    dst: BufferSide,
     size: Option<u64>,
 }
 
 impl Transfer {
     #[tactic(auto, using(refusals::proofs::Stages::copied), unfolding(crate::specs::Stages::fitting_copy))]
     fn fitting(&self, bytes: u64) -> Result<BufferPlan, TransferError>
-        requires { self.now.source_offset ≤ self.now.src.size }
-        ensures { result ≡ fitting_copy self.now.src self.now.source_offset self.now.dst self.now.destination_offset bytes }
+        requires { self.now.src.offset ≤ self.now.src.buffer.size }
+        ensures { result ≡ fitting_copy self.now.src self.now.dst bytes }
     {
-        if bytes > self.src.size - self.source_offset {
+        if bytes > self.src.buffer.size - self.src.offset {
             return Err(TransferError::BufferEndOffsetOverrun {
-                start_offset: self.source_offset,
+                start_offset: self.src.offset,
                 size: bytes,
-                buffer_size: self.src.size,
+                buffer_size: self.src.buffer.size,
                 side: CopySide::Source,
             });
         }
-        if self.destination_offset > self.dst.size {
+        if self.dst.offset > self.dst.buffer.size {
             return Err(TransferError::BufferStartOffsetOverrun {
-                start_offset: self.destination_offset,
-                buffer_size: self.dst.size,
+                start_offset: self.dst.offset,
+                buffer_size: self.dst.buffer.size,
                 side: CopySide::Destination,
             });
         }
-        if bytes > self.dst.size - self.destination_offset {
+        if bytes > self.dst.buffer.size - self.dst.offset {
             return Err(TransferError::BufferEndOffsetOverrun {
-                start_offset: self.destination_offset,
+                start_offset: self.dst.offset,
                 size: bytes,
-                buffer_size: self.dst.size,
+                buffer_size: self.dst.buffer.size,
                 side: CopySide::Destination,
             });
         }
-        Ok(plan_buffers::plan_of(self.source_offset, self.destination_offset, bytes))
+        Ok(plan_buffers::plan_of(self.src.offset, self.dst.offset, bytes))
     }
 
     #[tactic(auto, using(refusals::proofs::Stages::copied), unfolding(crate::specs::Stages::sized_copy))]
     fn sized(&self, bytes: u64) -> Result<BufferPlan, TransferError>
-        requires { self.now.source_offset ≤ self.now.src.size }
-        ensures { result ≡ sized_copy self.now.device self.now.src self.now.source_offset self.now.dst self.now.destination_offset bytes }
+        requires { self.now.src.offset ≤ self.now.src.buffer.size }
+        ensures { result ≡ sized_copy self.now.device self.now.src self.now.dst bytes }
     {
         if !is_aligned(bytes) {
             return Err(TransferError::UnalignedCopySize(bytes));
         }
-        if !is_aligned(self.source_offset) {
-            return Err(TransferError::UnalignedBufferOffset(self.source_offset));
+        if !is_aligned(self.src.offset) {
+            return Err(TransferError::UnalignedBufferOffset(self.src.offset));
         }
-        if !is_aligned(self.destination_offset) {
-            return Err(TransferError::UnalignedBufferOffset(self.destination_offset));
+        if !is_aligned(self.dst.offset) {
+            return Err(TransferError::UnalignedBufferOffset(self.dst.offset));
         }
-        if lacks_index_fact(self.device, self.src.usage, self.dst.usage) {
+        if lacks_index_fact(self.device, self.src.buffer.usage, self.dst.buffer.usage) {
             return Err(TransferError::MissingDownlevelFlags(
                 DownlevelFlags::UnrestrictedIndexBuffer,
             ));
@@ -130,55 +121,47 @@ impl Transfer {
     // An absent size is what is left of the source.
     #[tactic(auto, using(refusals::proofs::Stages::copied))]
     fn usable(&self) -> Result<BufferPlan, TransferError>
-        ensures { result ≡ usable_copy self.now.device self.now.src_index self.now.src self.now.source_offset self.now.dst_index self.now.dst self.now.destination_offset self.now.size }
+        ensures { result ≡ usable_copy self.now.device self.now.src self.now.dst self.now.size }
     {
-        if self.src_index == self.dst_index {
+        if self.src.index == self.dst.index {
             return Err(TransferError::SameSourceDestinationBuffer);
         }
-        if !self.src.usage.contains(BufferUsages::COPY_SRC) {
+        if !self.src.buffer.usage.contains(BufferUsages::COPY_SRC) {
             return Err(TransferError::MissingBufferUsage {
                 side: CopySide::Source,
             });
         }
-        if !self.dst.usage.contains(BufferUsages::COPY_DST) {
+        if !self.dst.buffer.usage.contains(BufferUsages::COPY_DST) {
             return Err(TransferError::MissingBufferUsage {
                 side: CopySide::Destination,
             });
         }
-        if self.source_offset > self.src.size {
+        if self.src.offset > self.src.buffer.size {
             return Err(TransferError::BufferStartOffsetOverrun {
-                start_offset: self.source_offset,
-                buffer_size: self.src.size,
+                start_offset: self.src.offset,
+                buffer_size: self.src.buffer.size,
                 side: CopySide::Source,
             });
         }
-        self.sized(size_or(self.size, self.src.size - self.source_offset))
+        self.sized(size_or(self.size, self.src.buffer.size - self.src.offset))
     }
 }
 
-// The plan of a copy between the buffers of two indices, or its refusal.
+// The plan of a copy between two buffers, or its refusal.
 pub fn copy_buffer_to_buffer(
     device: Device,
-    src_index: u32,
-    src: Buffer,
-    source_offset: u64,
-    dst_index: u32,
-    dst: Buffer,
-    destination_offset: u64,
+    src: BufferSide,
+    dst: BufferSide,
     size: Option<u64>,
 ) -> Result<BufferPlan, TransferError>
-    ensures { result ≡ buffer_to_buffer device src_index src source_offset dst_index dst destination_offset size }
+    ensures { result ≡ buffer_to_buffer device src.index src.buffer src.offset dst.index dst.buffer dst.offset size }
 {
-    let src = records::check_buffer(src, CopySide::Source)?;
-    let dst = records::check_buffer(dst, CopySide::Destination)?;
+    records::check_buffer(src.buffer, CopySide::Source)?;
+    records::check_buffer(dst.buffer, CopySide::Destination)?;
     let transfer = Transfer {
         device,
-        src_index,
-        src: src.buffer,
-        source_offset,
-        dst_index,
-        dst: dst.buffer,
-        destination_offset,
+        src,
+        dst,
         size,
     };
     transfer.usable()

@@ -4,12 +4,12 @@ ghost use Rattle.std.specs.Prelude.{◌≡◌, is_some, count_by};
 ghost use Rattle.copy_kinds.specs.Planned.{planned_buffers, planned_upload, planned_memory_upload, planned_download, planned_textures};
 ghost use Rattle.copy_kinds.specs.Ranges.{buffer_slot, no_ranges, buffer_ranges, texture_and_buffer, copy_ranges, memory_ranges, two_textures, texture_ranges, count_of};
 
+use copy_buffer_texture::LinearTextureCopy;
+use copy_buffers::BufferSide;
 use measures::Extent3d;
-use plan_buffer_texture::BufferTexturePlan;
 use plan_buffers::BufferPlan;
 use plan_kinds::Plan;
-use plan_textures::TexturePlan;
-use records::{Buffer, Device, TexelCopyBufferLayout, TextureSide};
+use records::{Buffer, Device, TextureSide};
 use refusals::TransferError;
 use rule_init_ranges::{BufferInitRange, BufferInitRanges, TextureInitRange};
 
@@ -37,9 +37,7 @@ fn buffer_slot(buffer: u32, range: Option<BufferInitRange>) -> Option<InitRange>
 fn no_ranges() -> Ranges
     ensures { result ≡ no_ranges }
 {
-    Ranges {
-        slots: [None, None, None, None],
-    }
+    Ranges { slots: [None; 4] }
 }
 
 #[tactic(auto, unfolding(crate::specs::Ranges::buffer_ranges))]
@@ -70,6 +68,7 @@ fn texture_and_buffer(texture: u32, t: TextureInitRange, buffer: u32, b: BufferI
     }
 }
 
+#[tactic(auto, unfolding(crate::specs::Ranges::copy_ranges))]
 fn copy_ranges(
     texture: u32,
     buffer: u32,
@@ -77,21 +76,22 @@ fn copy_ranges(
 ) -> Ranges
     ensures { result ≡ copy_ranges texture buffer ranges }
 {
-    match ranges {
-        Some((t, b)) => texture_and_buffer(texture, t, buffer, b),
-        None => no_ranges(),
-    }
+    ranges.map_or(
+        no_ranges(),
+        |(t, b)| texture_and_buffer(texture, t, buffer, b),
+    )
 }
 
+#[tactic(auto, unfolding(crate::specs::Ranges::memory_ranges))]
 fn memory_ranges(texture: u32, ranges: Option<(TextureInitRange, BufferInitRanges)>) -> Ranges
     ensures { result ≡ memory_ranges texture ranges }
 {
-    match ranges {
-        Some((t, _)) => Ranges {
+    ranges.map_or(
+        no_ranges(),
+        |(t, _)| Ranges {
             slots: [Some(InitRange::Texture(texture, t)), None, None, None],
         },
-        None => no_ranges(),
-    }
+    )
 }
 
 #[tactic(auto, unfolding(crate::specs::Ranges::two_textures))]
@@ -108,6 +108,7 @@ fn two_textures(src: u32, s: TextureInitRange, dst: u32, d: TextureInitRange) ->
     }
 }
 
+#[tactic(auto, unfolding(crate::specs::Ranges::texture_ranges))]
 fn texture_ranges(
     src: u32,
     dst: u32,
@@ -115,78 +116,60 @@ fn texture_ranges(
 ) -> Ranges
     ensures { result ≡ texture_ranges src dst ranges }
 {
-    match ranges {
-        Some((s, d)) => two_textures(src, s, dst, d),
-        None => no_ranges(),
-    }
+    ranges.map_or(no_ranges(), |(s, d)| two_textures(src, s, dst, d))
 }
 
 // The plan of a copy between buffers, or its refusal. Buffers, and textures, are told apart by their indices.
 pub fn plan_buffers(
     device: Device,
-    src_index: u32,
-    src: Buffer,
-    src_offset: u64,
-    dst_index: u32,
-    dst: Buffer,
-    dst_offset: u64,
+    src: BufferSide,
+    dst: BufferSide,
     size: Option<u64>,
 ) -> Result<(Plan, Ranges), TransferError>
-    ensures { result ≡ planned_buffers device src_index src src_offset dst_index dst dst_offset size }
+    ensures { result ≡ planned_buffers device src.index src.buffer src.offset dst.index dst.buffer dst.offset size }
 {
-    let plan = copy_buffers::copy_buffer_to_buffer(
-        device, src_index, src, src_offset, dst_index, dst, dst_offset, size,
-    )?;
-    let ranges = buffer_ranges(src_index, dst_index, plan);
+    let plan = copy_buffers::copy_buffer_to_buffer(device, src, dst, size)?;
+    let ranges = buffer_ranges(src.index, dst.index, plan);
     Ok((Plan::Buffers(plan), ranges))
 }
 
 // The same of a copy from a buffer into a texture.
 pub fn plan_upload(
-    device: Device,
     buffer_index: u32,
     buffer: Buffer,
-    layout: TexelCopyBufferLayout,
     texture_index: u32,
-    texture: TextureSide,
-    size: Extent3d,
+    copy: LinearTextureCopy,
 ) -> Result<(Plan, Ranges), TransferError>
-    ensures { result ≡ planned_upload device buffer_index buffer layout texture_index texture.texture texture.view size }
+    ensures { result ≡ planned_upload copy.device buffer_index buffer copy.layout texture_index copy.texture.texture copy.texture.view copy.size }
 {
-    let plan = copy_buffer_texture::copy_buffer_to_texture(device, buffer, layout, texture, size)?;
+    let plan = copy_buffer_texture::copy_buffer_to_texture(buffer, copy)?;
     let ranges = copy_ranges(texture_index, buffer_index, plan.ranges);
     Ok((Plan::BufferTexture(plan), ranges))
 }
 
 // The same of a copy from a block of memory into a texture.
 pub fn plan_memory_upload(
-    device: Device,
     length: u64,
-    layout: TexelCopyBufferLayout,
     texture_index: u32,
-    texture: TextureSide,
-    size: Extent3d,
+    copy: LinearTextureCopy,
 ) -> Result<(Plan, Ranges), TransferError>
-    ensures { result ≡ planned_memory_upload device length layout texture_index texture.texture texture.view size }
+    ensures { result ≡ planned_memory_upload copy.device length copy.layout texture_index copy.texture.texture copy.texture.view copy.size }
 {
-    let plan = copy_buffer_texture::copy_memory_to_texture(device, length, layout, texture, size)?;
+    let plan = copy_buffer_texture::copy_memory_to_texture(length, copy)?;
     let ranges = memory_ranges(texture_index, plan.ranges);
     Ok((Plan::BufferTexture(plan), ranges))
 }
 
 // The same of a copy from a texture into a buffer.
 pub fn plan_download(
-    device: Device,
     texture_index: u32,
-    texture: TextureSide,
+    copy: LinearTextureCopy,
     buffer_index: u32,
     buffer: Buffer,
-    layout: TexelCopyBufferLayout,
-    size: Extent3d,
 ) -> Result<(Plan, Ranges), TransferError>
-    ensures { result ≡ planned_download device texture_index texture.texture texture.view buffer_index buffer layout size }
+    ensures { result ≡ planned_download copy.device texture_index copy.texture.texture copy.texture.view buffer_index buffer copy.layout copy.size }
 {
-    let plan = copy_buffer_texture::copy_texture_to_buffer(device, texture, buffer, layout, size)?;
+    let plan = copy_buffer_texture::copy_texture_to_buffer(copy, buffer)?;
     let ranges = copy_ranges(texture_index, buffer_index, plan.ranges);
     Ok((Plan::BufferTexture(plan), ranges))
 }

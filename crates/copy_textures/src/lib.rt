@@ -7,14 +7,13 @@ ghost use Rattle.formats.specs.Aspects.{subsampling_factor};
 ghost use Rattle.refusals.specs.Order.{checked};
 ghost use Rattle.rule_copy_range.specs.Range.{layer_count_of, range_checks};
 ghost use Rattle.rule_selectors.specs.Selector.{same_texture_checks};
-ghost use Rattle.copy_textures.specs.Copy.{is_plane_split, formats_differ, plane_width, plane_height};
+ghost use Rattle.copy_textures.specs.Copy.{is_plane_split, formats_differ};
 ghost use Rattle.copy_textures.specs.Plan.{plane_checks, texture_to_texture};
 ghost use Rattle.copy_textures.specs.Laws.{EveryCopyLaw};
 ghost use Rattle.copy_textures.specs.Stages.{planned_copy, usable, selected_copy, placed_copy};
 
 use flags::TextureUsages;
-use formats::TextureAspect;
-use measures::{Extent3d, Texels};
+use measures::Extent3d;
 use plan_textures::TexturePlan;
 use records::{CheckedSide, TextureSide};
 use refusals::{CopySide, TextureErrorDimension, TransferError};
@@ -48,48 +47,27 @@ fn formats_differ(src: TextureSide, dst: TextureSide) -> bool
 fn is_incompatible(split: bool, src: TextureSide, dst: TextureSide) -> bool
     ensures { result ≡ (formats_differ src dst && not split) }
 {
-    conditions::both(formats_differ(src, dst), !split)
+    formats_differ(src, dst) & !split
 }
 
-#[tactic(auto, using(crate::proofs::Rules::factor_some))]
-fn plane_side(n: Texels, aspect: TextureAspect) -> Texels
-    ensures { result ≡ divided_by n (subsampling_factor aspect) }
-{
-    n.divided_by(formats::subsampling_factor(aspect))
-}
-
-#[tactic(auto, unfolding(crate::specs::Copy::plane_width))]
-fn plane_width(src: TextureSide) -> Texels
-    ensures { result ≡ plane_width src }
-{
-    let extent = records::logical_extent(src);
-    plane_side(extent.width, src.view.aspect)
-}
-
-#[tactic(auto, unfolding(crate::specs::Copy::plane_height))]
-fn plane_height(src: TextureSide) -> Texels
-    ensures { result ≡ plane_height src }
-{
-    let extent = records::logical_extent(src);
-    plane_side(extent.height, src.view.aspect)
-}
-
-#[tactic(auto, using(refusals::proofs::Order::ordered), unfolding(crate::specs::Plan::plane_checks, refusals::specs::Order::decided))]
+#[tactic(auto, using(refusals::proofs::Order::ordered, crate::proofs::Rules::factor_some), unfolding(crate::specs::Plan::plane_checks, crate::specs::Copy::plane_width, crate::specs::Copy::plane_height, refusals::specs::Order::decided))]
 fn check_plane_extent(src: TextureSide, size: Extent3d) -> Result<(), TransferError>
     ensures { result ≡ checked (plane_checks src size) }
 {
     let source = rule_copy_range::subject_of(src.texture, CopySide::Source);
     let origin = src.view.origin;
+    let level = records::logical_extent(src);
+    let factor = formats::subsampling_factor(src.view.aspect);
     let x = Run {
         start: origin.x,
         size: size.width,
-        limit: plane_width(src),
+        limit: level.width.divided_by(factor),
     };
     x.check_dimension(source, TextureErrorDimension::X, false)?;
     let y = Run {
         start: origin.y,
         size: size.height,
-        limit: plane_height(src),
+        limit: level.height.divided_by(factor),
     };
     y.check_dimension(source, TextureErrorDimension::Y, false)?;
     Ok(())
@@ -104,7 +82,7 @@ fn lacks_aspects(side: TextureSide, base: TextureCopyBase) -> bool
 fn lacks_src_aspects(split: bool, src: TextureSide, base: TextureCopyBase) -> bool
     ensures { result ≡ (not split && not (eqb base.aspect.0 (aspects_of src.texture.format))) }
 {
-    conditions::both(!split, lacks_aspects(src, base))
+    !split & lacks_aspects(src, base)
 }
 
 // A copy between textures, of a size that lies inside both: over a few layers.

@@ -162,8 +162,7 @@ pub fn block_dimensions(format: u32) -> BlockDimensions
 pub fn format_aspects(format: u32) -> FormatAspects
     ensures { result.0 ≡ aspects_of format }
 {
-    let row = format_row(format);
-    row.aspects
+    format_row(format).aspects
 }
 
 // A number that no aspect has.
@@ -211,52 +210,17 @@ pub fn chosen_aspects(format: u32, asked: TextureAspect) -> FormatAspects
     met_with_asked(format_aspects(format), asked)
 }
 
-// The bytes of a block of each aspect. One field at a time, a look at the table is one load.
-fn color_bytes(format: u32) -> u32
-    ensures { result ≡ (format_row format).color }
-{
-    let row = format_row(format);
-    row.color
-}
-
-fn depth_bytes(format: u32) -> u32
-    ensures { result ≡ (format_row format).depth }
-{
-    let row = format_row(format);
-    row.depth
-}
-
-fn stencil_bytes(format: u32) -> u32
-    ensures { result ≡ (format_row format).stencil }
-{
-    let row = format_row(format);
-    row.stencil
-}
-
-fn plane_0_bytes(format: u32) -> u32
-    ensures { result ≡ (format_row format).plane_0 }
-{
-    let row = format_row(format);
-    row.plane_0
-}
-
-fn plane_1_bytes(format: u32) -> u32
-    ensures { result ≡ (format_row format).plane_1 }
-{
-    let row = format_row(format);
-    row.plane_1
-}
-
+// The bytes of a block of an aspect. One field at a time, a look at the table is one load.
 #[tactic(auto, using(conditions::proofs::Rules::lines), unfolding(crate::specs::Aspects::bytes_of))]
 fn bytes_of(format: u32, aspects: FormatAspects) -> u32
     ensures { result ≡ bytes_of (format_row format) aspects.0 }
 {
     match aspects {
-        FormatAspects::COLOR => color_bytes(format),
-        FormatAspects::DEPTH => depth_bytes(format),
-        FormatAspects::STENCIL => stencil_bytes(format),
-        FormatAspects::PLANE_0 => plane_0_bytes(format),
-        FormatAspects::PLANE_1 => plane_1_bytes(format),
+        FormatAspects::COLOR => format_row(format).color,
+        FormatAspects::DEPTH => format_row(format).depth,
+        FormatAspects::STENCIL => format_row(format).stencil,
+        FormatAspects::PLANE_0 => format_row(format).plane_0,
+        FormatAspects::PLANE_1 => format_row(format).plane_1,
         _ => NONE,
     }
 }
@@ -269,11 +233,12 @@ fn is_color(aspects: FormatAspects, asked: TextureAspect) -> bool
 }
 
 // The bytes of a block of the one aspect that a copy chooses; `NONE` where it has none. Nearly every copy is of a colour format.
+#[tactic(auto, using(crate::proofs::Rows::color_size))]
 fn chosen_bytes(format: u32, asked: TextureAspect) -> u32
     ensures { result ≡ bytes_of (format_row format) (chosen_aspects format asked) }
 {
     if is_color(format_aspects(format), asked) {
-        return color_bytes(format);
+        return format_row(format).color;
     }
     bytes_of(format, chosen_aspects(format, asked))
 }
@@ -284,7 +249,7 @@ pub fn block_copy_size(format: u32, asked: TextureAspect) -> Option<u32>
     ensures { result ≡ block_copy_size format asked }
 {
     let bytes = chosen_bytes(format, asked);
-    if bytes == NONE { None } else { Some(bytes) }
+    (bytes != NONE).then_some(bytes)
 }
 
 #[tactic(auto, unfolding(crate::specs::Table::is_depth_stencil))]

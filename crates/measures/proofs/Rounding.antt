@@ -4,11 +4,11 @@ use mathlib.Core.Path.{◌≡◌, sym, ap, ◌∙◌}
 use mathlib.Core.Logic.{◌⊎◌, inl, inr}
 use Prim.Native.Nat.{ℕ, ◌+◌, ◌-◌, ◌*◌, ◌/◌, ◌%◌, ◌≤◌, ◌<◌}
 use native.Mathlib.Omega.{arith}
-use native.Mathlib.Nat.{add-mul, div-add-mod', div-lt_iff_lt-mul, div-mul-le_self, div-one, eq-zero-or-pos, lt-div-mul-add, mod-lt, mul-mod_left, mul-one}
+use native.Mathlib.Nat.{add-mul, div-add-mod', div-lt_iff_lt-mul, div-mul-le_self, div-one, eq-zero-or-pos, lt-div-mul-add, mod-eq_of_lt, mod-lt, mod_self, mul-mod_left, mul-one}
 use lib.Arith.{digits_div}
-use Rattle.std.specs.Int.{div_ceil}
+use Rattle.std.specs.Int.{div_ceil, next_multiple_of}
 use Rattle.measures.specs.declared.Texels.{Texels}
-use Rattle.measures.specs.Measure.{blocks, blocks_of, rounded_up}
+use Rattle.measures.specs.Measure.{texels, blocks, blocks_of, rounded_up}
 use Rattle.measures.specs.Laws.{EveryBlockSize}
 
 -- blocks of one texel
@@ -47,6 +47,25 @@ module _ (size : ℕ) (pos : 0 < size) where
   pub counted : (side n : Texels) → size ≡ side.0 → blocks (div_ceil n.0 size) ≡ blocks (blocks_of n.0 side.0)
   counted side n e = rw (← e) (ap blocks (blocks_ceil n.0))
 
+  exact : (n : ℕ) → n % size ≡ 0 → blocks_of n size * size ≡ n
+  exact n e = ap (λ (k : ℕ). k * size) (blocks_of_whole n e) ∙ omega (arith, div-add-mod' n size)
+
+  -- the multiple of std
+  pub next_multiple : (n : ℕ) → next_multiple_of n size ≡ rounded_up n size
+  unfolding rounded_up
+  next_multiple n = go (eq-zero-or-pos (n % size))
+    where
+      go : (n % size ≡ 0) ⊎ (0 < n % size) → next_multiple_of n size ≡ blocks_of n size * size
+      go (inl e) =
+          let none : size - n % size ≡ size = omega (arith, e) in
+          ap (λ (r : ℕ). n + r % size) none ∙ ap (λ (r : ℕ). n + r) (mod_self size) ∙ omega (arith, exact n e)
+      go (inr h) =
+          let less : (size - n % size) % size ≡ size - n % size = mod-eq_of_lt (omega arith) in
+          rw (less, blocks_of_rest n h) (omega (arith, mod-lt n pos, div-add-mod' n size, add-mul (n / size) 1 size))
+
+  pub rounded : (side n : Texels) → size ≡ side.0 → texels (next_multiple_of n.0 size) ≡ texels (rounded_up n.0 side.0)
+  rounded side n e = rw (← e) (ap texels (next_multiple n.0))
+
   holds : (n : ℕ) → n ≤ rounded_up n size
   unfolding blocks_of rounded_up
   holds n = let over = lt-div-mul-add {a = n + (size - 1)} pos in omega arith
@@ -69,9 +88,6 @@ module _ (size : ℕ) (pos : 0 < size) where
   whole : (n : ℕ) → rounded_up n size % size ≡ 0
   unfolding rounded_up
   whole n = mul-mod_left (blocks_of n size) size
-
-  exact : (n : ℕ) → n % size ≡ 0 → blocks_of n size * size ≡ n
-  exact n e = ap (λ (k : ℕ). k * size) (blocks_of_whole n e) ∙ omega (arith, div-add-mod' n size)
 
 pub block_laws : EveryBlockSize
 block_laws size pos =

@@ -4,6 +4,7 @@ use Rattle.measures.specs.declared.Texels.{Texels}
 use Rattle.measures.specs.declared.Blocks.{Blocks}
 use Rattle.measures.specs.declared.Extent3d.{Extent3d}
 use Rattle.measures.specs.declared.BlockDimensions.{BlockDimensions}
+use Rattle.measures.specs.declared.Range.{Range}
 
 -- a value, or another where it is absent
 unfoldable pub or_else : Option ℕ → ℕ → ℕ
@@ -52,6 +53,10 @@ physical_size e block =
       height = round_up e.height block.height;
       depth_or_array_layers = e.depth_or_array_layers;
     }
+
+-- from a start on, as many as counted
+abbrev pub counted : ℕ → ℕ → Range
+counted start count = record { start = start; end = start + count }
 
 -- nothing is copied
 unfoldable pub is_empty : Extent3d → Bool

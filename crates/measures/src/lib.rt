@@ -1,7 +1,7 @@
 #![tactic(auto)]
 // Texels and blocks, extents and origins, and the values that may be absent.
 ghost use Rattle.std.specs.Prelude.{◌≡◌, ◌+◌, ◌<◌, ◌≤◌, ◌^◌};
-ghost use Rattle.measures.specs.Measure.{or_else, multiple, in_blocks, lesser_of, divided_by, round_up, physical_size, is_empty};
+ghost use Rattle.measures.specs.Measure.{or_else, multiple, in_blocks, lesser_of, divided_by, round_up, physical_size, counted, is_empty};
 ghost use Rattle.measures.specs.Laws.{EveryBlockSize};
 
 use std::marker::Model;
@@ -93,6 +93,7 @@ impl Texels {
     }
 
     // These rounded up to whole blocks of a side.
+    #[tactic(auto, using(crate::proofs::Rounding::rounded), unfolding(crate::specs::Measure::round_up))]
     fn rounded_up(self, side: BlockSide) -> Texels
         requires { self.0 + side.0 ≤ 2 ^ 32 }
         ensures { result ≡ round_up self side }
@@ -101,7 +102,7 @@ impl Texels {
         if size == 1 {
             return self;
         }
-        Texels((self.0 + (size - 1)) / size * size)
+        Texels(self.0.next_multiple_of(size))
     }
 }
 
@@ -134,15 +135,25 @@ pub struct Range {
     pub end: u64,
 }
 
+impl Range {
+    // From a start on, as many as counted.
+    pub fn counted(start: u32, count: u32) -> Range
+        ensures { result ≡ counted start count }
+    {
+        let start = start as u64;
+        Range {
+            start,
+            end: start + (count as u64),
+        }
+    }
+}
+
 // A value, or another where it is absent.
 #[tactic(auto, unfolding(crate::specs::Measure::or_else))]
 pub fn or_else(value: Option<u32>, other: u64) -> u64
     ensures { result ≡ or_else value other }
 {
-    match value {
-        Some(n) => n as u64,
-        None => other,
-    }
+    value.map_or(other, u64::from)
 }
 
 // Width and height rounded up to whole blocks.
@@ -164,10 +175,7 @@ pub fn physical_size(e: Extent3d, block: BlockDimensions) -> Extent3d
 pub fn is_empty(size: Extent3d) -> bool
     ensures { result ≡ is_empty size }
 {
-    conditions::either(
-        size.width.0 == 0,
-        conditions::either(size.height.0 == 0, size.depth_or_array_layers == 0),
-    )
+    (size.width.0 == 0) | (size.height.0 == 0) | (size.depth_or_array_layers == 0)
 }
 
 // Asks the check for the laws of blocks; nothing runs here.

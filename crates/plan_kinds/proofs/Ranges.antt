@@ -33,21 +33,21 @@ module _ (ranges : Option (TextureInitRange × TextureInitRange)) where
   advanced_with DepthStencil p = part_with (eqb p.part 0) p
   advanced_with Planes p = part_with (eqb p.part 0) p
 
-  pub numbers_with : (p : TexturePlan) → region_numbers (Textures (textures_with ranges p)) ≡ region_numbers (Textures p)
-  unfolding region_numbers X.next_of stop_if
-  numbers_with p = by (eqb p.left 0) refl
+  answer_with : (p : TexturePlan) → (X.next_of (textures_with ranges p)).answer ≡ (X.next_of p).answer
+  unfolding X.next_of stop_if
+  answer_with p = by (eqb p.left 0) refl
     where
-      by : (t : Bool) → eqb p.left 0 ≡ t → region_numbers (Textures (textures_with ranges p)) ≡ region_numbers (Textures p)
+      by : (t : Bool) → eqb p.left 0 ≡ t → (X.next_of (textures_with ranges p)).answer ≡ (X.next_of p).answer
       by true e = rw e
       by false e = rw (e, region_with p.parts p)
 
   pub next_with : (p : TexturePlan) → next_numbers (Textures (textures_with ranges p)) ≡ next_numbers (Textures p)
-  unfolding next_numbers X.next_of stop_if
-  next_with p = by (eqb p.left 0) refl
-    where
-      by : (t : Bool) → eqb p.left 0 ≡ t → next_numbers (Textures (textures_with ranges p)) ≡ next_numbers (Textures p)
-      by true e = rw e
-      by false e = rw (e, region_with p.parts p)
+  unfolding next_numbers
+  next_with p = rw (answer_with p)
+
+  pub numbers_with : (p : TexturePlan) → region_numbers (Textures (textures_with ranges p)) ≡ region_numbers (Textures p)
+  unfolding region_numbers
+  numbers_with p = rw (next_with p)
 
   pub behind_with : (p : TexturePlan) → behind_of (Textures (textures_with ranges p)) ≡ Textures (textures_with ranges (X.next_of p).plan)
   unfolding behind_of X.next_of stop_if

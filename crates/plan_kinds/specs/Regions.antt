@@ -1,5 +1,5 @@
 -- The regions of a plan of any kind, as rows of numbers.
-use Rattle.std.specs.Prelude.{ℕ, zero, suc, List, [], ◌∷◌, Option, Some, None, option_map}
+use Rattle.std.specs.Prelude.{ℕ, zero, suc, List, [], ◌∷◌, Option, option_map, unwrap_or}
 use Rattle.plan_buffers.specs.Asking as K
 use Rattle.plan_buffer_texture.specs.Asking as L
 use Rattle.plan_textures.specs.declared.TexturePlan.{TexturePlan}
@@ -8,9 +8,6 @@ use Rattle.plan_rows.specs.Rows.{buffer_copy_numbers, buffer_texture_copy_number
 use Rattle.plan_kinds.specs.declared.Plan.{Plan}
 use Rattle.plan_kinds.specs.declared.Plan.TheVariants.{Buffers, BufferTexture, Textures}
 use Rattle.plan_asked.specs.declared.Asked.{Asked}
-use Rattle.plan_buffer_texture.specs.declared.BufferTextureCopy.{BufferTextureCopy}
-use Rattle.plan_buffers.specs.declared.BufferCopy.{BufferCopy}
-use Rattle.plan_textures.specs.declared.TextureCopy.{TextureCopy}
 use Rattle.rule_init_ranges.specs.declared.TextureInitRange.{TextureInitRange}
 
 -- how many regions are left
@@ -33,38 +30,23 @@ checked_bytes_of (Textures p) = 0
 
 -- ---- the next region's numbers, of which there are none past the last, and the plan after it
 
-unfoldable pub buffer_numbers : Option BufferCopy → List ℕ
-buffer_numbers (Some r) = buffer_copy_numbers r
-buffer_numbers None = []
-
-unfoldable pub buffer_texture_numbers : Option BufferTextureCopy → List ℕ
-buffer_texture_numbers (Some r) = buffer_texture_copy_numbers r
-buffer_texture_numbers None = []
-
-unfoldable pub texture_numbers : Option TextureCopy → List ℕ
-texture_numbers (Some r) = texture_copy_numbers r
-texture_numbers None = []
-
-unfoldable pub region_numbers : Plan → List ℕ
-region_numbers (Buffers p) = buffer_numbers (K.next_of p).answer
-region_numbers (BufferTexture p) = buffer_texture_numbers (L.next_of p).answer
-region_numbers (Textures p) = texture_numbers (X.next_of p).answer
+unfoldable pub next_numbers : Plan → Option (List ℕ)
+next_numbers (Buffers p) = option_map buffer_copy_numbers (K.next_of p).answer
+next_numbers (BufferTexture p) = option_map buffer_texture_copy_numbers (L.next_of p).answer
+next_numbers (Textures p) = option_map texture_copy_numbers (X.next_of p).answer
 
 unfoldable pub behind_of : Plan → Plan
 behind_of (Buffers p) = Buffers (K.next_of p).plan
 behind_of (BufferTexture p) = BufferTexture (L.next_of p).plan
 behind_of (Textures p) = Textures (X.next_of p).plan
 
--- the same numbers where a region is left, else none
-unfoldable pub next_numbers : Plan → Option (List ℕ)
-next_numbers (Buffers p) = option_map buffer_copy_numbers (K.next_of p).answer
-next_numbers (BufferTexture p) = option_map buffer_texture_copy_numbers (L.next_of p).answer
-next_numbers (Textures p) = option_map texture_copy_numbers (X.next_of p).answer
-
 unfoldable pub next_of : Plan → Asked (List ℕ) Plan
 next_of p = record { answer = next_numbers p; plan = behind_of p }
 
 -- ---- the regions left, each by asking the plan that the one before handed back
+
+unfoldable pub region_numbers : Plan → List ℕ
+region_numbers p = unwrap_or (next_numbers p) []
 
 unfoldable pub regions_from : ℕ → Plan → List (List ℕ)
 regions_from zero p = []

@@ -46,6 +46,7 @@ impl Regions for BufferPlan {
         self.left
     }
 
+    #[tactic(auto, using(crate::proofs::Numbers::mapped), unfolding(crate::specs::Regions::next_numbers, crate::specs::Regions::behind_of))]
     fn next_row(self) -> Asked<Row, BufferPlan> {
         let asked = self.next();
         Asked {
@@ -67,6 +68,7 @@ impl Regions for BufferTexturePlan {
         self.left
     }
 
+    #[tactic(auto, using(crate::proofs::Numbers::mapped), unfolding(crate::specs::Regions::next_numbers, crate::specs::Regions::behind_of))]
     fn next_row(self) -> Asked<Row, BufferTexturePlan> {
         let asked = self.next();
         Asked {
@@ -88,6 +90,7 @@ impl Regions for TexturePlan {
         self.left
     }
 
+    #[tactic(auto, using(crate::proofs::Numbers::mapped), unfolding(crate::specs::Regions::next_numbers, crate::specs::Regions::behind_of))]
     fn next_row(self) -> Asked<Row, TexturePlan> {
         let asked = self.next();
         Asked {
@@ -110,6 +113,7 @@ fn next_as_plan<P: Regions>(plan: P) -> Asked<Row, Plan>
 
 impl Plan {
     // How many regions are left.
+    #[tactic(auto, unfolding(crate::specs::Regions::left_of))]
     pub fn left(self) -> u32
         ensures { result ≡ left_of self }
     {
@@ -121,6 +125,7 @@ impl Plan {
     }
 
     // The bytes that the copy was held to.
+    #[tactic(auto, unfolding(crate::specs::Regions::checked_bytes_of))]
     pub fn bytes_checked(self) -> u64
         ensures { result ≡ checked_bytes_of self }
     {

@@ -1,13 +1,15 @@
 #![tactic(auto)]
 // Regions, ranges and refusals as rows of numbers, as the listing and the lent slice have them.
-ghost use Rattle.std.specs.Prelude.{◌≡◌};
-ghost use Rattle.plan_rows.specs.Rows.{or_absent, buffer_copy_numbers, buffer_texture_copy_numbers, texture_copy_numbers, texture_range_numbers, buffer_range_numbers, refusal_numbers};
+ghost use Rattle.std.specs.Prelude.{◌≡◌, ◌≤◌, ◌+◌, ◌++◌, length};
+ghost use Rattle.plan_rows.specs.Rows.{or_absent, base_numbers, size_numbers, buffer_copy_numbers, buffer_texture_copy_numbers, texture_copy_numbers, texture_range_numbers, buffer_range_numbers, refusal_numbers};
 
 use plan_buffer_texture::BufferTextureCopy;
 use plan_buffers::BufferCopy;
 use plan_textures::TextureCopy;
 use refusals::{Refusal, TransferError};
+use rule_copy_range::CopyExtent;
 use rule_init_ranges::{BufferInitRange, TextureInitRange};
+use rule_selectors::TextureCopyBase;
 use std::marker::Model;
 
 // What stands for an absent value.
@@ -31,6 +33,26 @@ impl Model for Row {
 }
 
 impl Row {
+    fn of<const N: usize>(numbers: [u64; N]) -> Row
+        requires { N ≤ 15 }
+        ensures { result ≡ numbers.entry }
+    {
+        let mut values = [0; 15];
+        values[..N].copy_from_slice(&numbers);
+        Row { count: N, values }
+    }
+
+    // Its numbers, and more after them.
+    fn followed_by<const N: usize>(self, more: [u64; N]) -> Row
+        requires { length self + N ≤ 15 }
+        ensures { result ≡ self ++ more.entry }
+    {
+        let end = self.count + N;
+        let mut values = self.values;
+        values[self.count..end].copy_from_slice(&more);
+        Row { count: end, values }
+    }
+
     pub fn as_slice(&self) -> &[u64]
         ensures { result.now ≡ self.now }
     {
@@ -46,31 +68,31 @@ pub fn or_absent(value: Option<u32>) -> u64
     measures::or_else(value, ABSENT)
 }
 
+fn base_numbers(b: TextureCopyBase) -> [u64; 6]
+    ensures { result ≡ base_numbers b }
+{
+    [
+        b.mip_level as u64,
+        b.array_layer as u64,
+        b.origin.x.0 as u64,
+        b.origin.y.0 as u64,
+        b.origin.z as u64,
+        b.aspect.0 as u64,
+    ]
+}
+
+fn size_numbers(e: CopyExtent) -> [u64; 3]
+    ensures { result ≡ size_numbers e }
+{
+    [e.width.0 as u64, e.height.0 as u64, e.depth as u64]
+}
+
 impl From<BufferCopy> for Row {
     ghost from_gives = { λ r row. row ≡ buffer_copy_numbers r };
 
     #[tactic(auto, unfolding(crate::specs::Rows::buffer_copy_numbers))]
     fn from(r: BufferCopy) -> Row {
-        Row {
-            count: 3,
-            values: [
-                r.src_offset,
-                r.dst_offset,
-                r.size,
-                0,
-                0,
-                0,
-                0,
-                0,
-                0,
-                0,
-                0,
-                0,
-                0,
-                0,
-                0,
-            ],
-        }
+        Row::of([r.src_offset, r.dst_offset, r.size])
     }
 }
 
@@ -79,34 +101,11 @@ impl From<BufferTextureCopy> for Row {
 
     #[tactic(auto, unfolding(crate::specs::Rows::buffer_texture_copy_numbers))]
     fn from(r: BufferTextureCopy) -> Row {
-        let bytes_per_row = r.bytes_per_row;
-        let rows_per_image = r.rows_per_image;
-        let base = r.base;
-        let origin = base.origin;
-        let aspect = base.aspect;
-        let size = r.size;
-        let bytes = or_absent(bytes_per_row);
-        let rows = or_absent(rows_per_image);
-        Row {
-            count: 12,
-            values: [
-                r.offset,
-                bytes,
-                rows,
-                base.mip_level as u64,
-                base.array_layer as u64,
-                origin.x.0 as u64,
-                origin.y.0 as u64,
-                origin.z as u64,
-                aspect.0 as u64,
-                size.width.0 as u64,
-                size.height.0 as u64,
-                size.depth as u64,
-                0,
-                0,
-                0,
-            ],
-        }
+        let bytes = or_absent(r.bytes_per_row);
+        let rows = or_absent(r.rows_per_image);
+        Row::of([r.offset, bytes, rows])
+            .followed_by(base_numbers(r.base))
+            .followed_by(size_numbers(r.size))
     }
 }
 
@@ -115,33 +114,9 @@ impl From<TextureCopy> for Row {
 
     #[tactic(auto, unfolding(crate::specs::Rows::texture_copy_numbers))]
     fn from(r: TextureCopy) -> Row {
-        let src = r.src;
-        let dst = r.dst;
-        let size = r.size;
-        let src_origin = src.origin;
-        let src_aspect = src.aspect;
-        let dst_origin = dst.origin;
-        let dst_aspect = dst.aspect;
-        Row {
-            count: 15,
-            values: [
-                src.mip_level as u64,
-                src.array_layer as u64,
-                src_origin.x.0 as u64,
-                src_origin.y.0 as u64,
-                src_origin.z as u64,
-                src_aspect.0 as u64,
-                dst.mip_level as u64,
-                dst.array_layer as u64,
-                dst_origin.x.0 as u64,
-                dst_origin.y.0 as u64,
-                dst_origin.z as u64,
-                dst_aspect.0 as u64,
-                size.width.0 as u64,
-                size.height.0 as u64,
-                size.depth as u64,
-            ],
-        }
+        Row::of(base_numbers(r.src))
+            .followed_by(base_numbers(r.dst))
+            .followed_by(size_numbers(r.size))
     }
 }
 
@@ -149,57 +124,20 @@ impl From<TextureCopy> for Row {
 pub fn texture_range_row(texture: u32, r: TextureInitRange) -> Row
     ensures { result ≡ texture_range_numbers texture r }
 {
-    let layers = r.layers;
-    let kind = r.kind;
-    let number = u32::from(kind);
-    Row {
-        count: 5,
-        values: [
-            texture as u64,
-            r.mip_level as u64,
-            layers.start,
-            layers.end,
-            number as u64,
-            0,
-            0,
-            0,
-            0,
-            0,
-            0,
-            0,
-            0,
-            0,
-            0,
-        ],
-    }
+    Row::of([
+        texture as u64,
+        r.mip_level as u64,
+        r.layers.start,
+        r.layers.end,
+        u32::from(r.kind) as u64,
+    ])
 }
 
 #[tactic(auto, unfolding(crate::specs::Rows::buffer_range_numbers))]
 pub fn buffer_range_row(buffer: u32, r: BufferInitRange) -> Row
     ensures { result ≡ buffer_range_numbers buffer r }
 {
-    let kind = r.kind;
-    let number = u32::from(kind);
-    Row {
-        count: 4,
-        values: [
-            buffer as u64,
-            r.start,
-            r.end,
-            number as u64,
-            0,
-            0,
-            0,
-            0,
-            0,
-            0,
-            0,
-            0,
-            0,
-            0,
-            0,
-        ],
-    }
+    Row::of([buffer as u64, r.start, r.end, u32::from(r.kind) as u64])
 }
 
 impl From<TransferError> for Row {
@@ -208,25 +146,13 @@ impl From<TransferError> for Row {
     #[tactic(auto, unfolding(crate::specs::Rows::refusal_numbers))]
     fn from(why: TransferError) -> Row {
         let n = Refusal::from(why);
-        Row {
-            count: 6,
-            values: [
-                n.number as u64,
-                n.side as u64,
-                n.dimension as u64,
-                n.start,
-                n.end,
-                n.limit,
-                0,
-                0,
-                0,
-                0,
-                0,
-                0,
-                0,
-                0,
-                0,
-            ],
-        }
+        Row::of([
+            n.number as u64,
+            n.side as u64,
+            n.dimension as u64,
+            n.start,
+            n.end,
+            n.limit,
+        ])
     }
 }

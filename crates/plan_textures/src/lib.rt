@@ -192,8 +192,8 @@ pub fn plan_of(
 }
 
 #[tactic(auto, unfolding(crate::specs::Asking::base_as))]
-fn base_as(b: TextureCopyBase, aspects: u32, factor: Factor) -> TextureCopyBase
-    ensures { result ≡ base_as b aspects factor }
+fn base_as(b: TextureCopyBase, aspect: FormatAspects, factor: Factor) -> TextureCopyBase
+    ensures { result ≡ base_as b aspect.0 factor }
 {
     let origin = b.origin;
     TextureCopyBase {
@@ -202,7 +202,7 @@ fn base_as(b: TextureCopyBase, aspects: u32, factor: Factor) -> TextureCopyBase
             y: origin.y.divided_by(factor.number()),
             z: origin.z,
         },
-        aspect: FormatAspects(aspects),
+        aspect,
         ..b
     }
 }
@@ -220,12 +220,12 @@ fn size_by(e: CopyExtent, factor: Factor) -> CopyExtent
 
 impl TexturePlan {
     #[tactic(auto, unfolding(crate::specs::Asking::region_as))]
-    fn region_as(self, aspects: u32, factor: Factor) -> TextureCopy
-        ensures { result ≡ region_as self aspects factor }
+    fn region_as(self, aspect: FormatAspects, factor: Factor) -> TextureCopy
+        ensures { result ≡ region_as self aspect.0 factor }
     {
         TextureCopy {
-            src: base_as(self.src, aspects, factor),
-            dst: base_as(self.dst, aspects, factor),
+            src: base_as(self.src, aspect, factor),
+            dst: base_as(self.dst, aspect, factor),
             size: size_by(self.size, factor),
         }
     }
@@ -240,8 +240,9 @@ impl TexturePlan {
         }
     }
 
-    fn part_as(self, first: u32, second: u32, factor: Factor) -> TextureCopy
-        ensures { result ≡ pick (eqb self.part 0) (region_as self first 1) (region_as self second factor) }
+    // The first part, or the second, whose sides are divided by a factor.
+    fn part_as(self, first: FormatAspects, second: FormatAspects, factor: Factor) -> TextureCopy
+        ensures { result ≡ pick (eqb self.part 0) (region_as self first.0 1) (region_as self second.0 factor) }
     {
         if self.part == 0 {
             return self.region_as(first, Factor { number: 1 });
@@ -249,27 +250,17 @@ impl TexturePlan {
         self.region_as(second, factor)
     }
 
-    fn depth_or_stencil(self) -> TextureCopy
-        ensures { result ≡ pick (eqb self.part 0) (region_as self DEPTH 1) (region_as self STENCIL 1) }
+    #[tactic(auto, unfolding(crate::specs::Asking::region_of))]
+    fn region(self) -> TextureCopy
+        ensures { result ≡ region_of self.parts self }
     {
-        let whole = Factor { number: 1 };
-        self.part_as(FormatAspects::DEPTH.0, FormatAspects::STENCIL.0, whole)
-    }
-
-    fn plane(self) -> TextureCopy
-        ensures { result ≡ pick (eqb self.part 0) (region_as self PLANE_0 1) (region_as self PLANE_1 2) }
-    {
-        let half = Factor { number: 2 };
-        self.part_as(FormatAspects::PLANE_0.0, FormatAspects::PLANE_1.0, half)
-    }
-
-    fn region_of(self, parts: CopyParts) -> TextureCopy
-        ensures { result ≡ region_of parts self }
-    {
-        match parts {
+        let (same, half) = (Factor { number: 1 }, Factor { number: 2 });
+        match self.parts {
             CopyParts::Whole => self.whole(),
-            CopyParts::DepthStencil => self.depth_or_stencil(),
-            CopyParts::Planes => self.plane(),
+            CopyParts::DepthStencil => {
+                self.part_as(FormatAspects::DEPTH, FormatAspects::STENCIL, same)
+            }
+            CopyParts::Planes => self.part_as(FormatAspects::PLANE_0, FormatAspects::PLANE_1, half),
         }
     }
 
@@ -310,13 +301,12 @@ impl TexturePlan {
 
     // One region on, with so many left.
     #[tactic(auto, unfolding(crate::specs::Asking::advanced))]
-    fn advance(self, parts: CopyParts, left: u32) -> TexturePlan
-        ensures { left ≡ self.left - 1 → result ≡ advanced parts self }
+    fn advance(self, left: u32) -> TexturePlan
+        ensures { left ≡ self.left - 1 → result ≡ advanced self.parts self }
     {
-        match parts {
+        match self.parts {
             CopyParts::Whole => self.other_layer(left),
-            CopyParts::DepthStencil => self.next_part(left),
-            CopyParts::Planes => self.next_part(left),
+            CopyParts::DepthStencil | CopyParts::Planes => self.next_part(left),
         }
     }
 
@@ -326,8 +316,8 @@ impl TexturePlan {
     {
         match self.left.checked_sub(1) {
             Some(left) => Asked {
-                answer: Some(self.region_of(self.parts)),
-                plan: self.advance(self.parts, left),
+                answer: Some(self.region()),
+                plan: self.advance(left),
             },
             None => Asked {
                 answer: None,

@@ -1,12 +1,11 @@
 -- Laws of the regions that are written. Assumes nothing.
 use Rattle.std.specs.Prelude.{Option, None, unwrap_or}
 use mathlib.Core.Path.{◌≡◌, refl, sym, ap, ◌∙◌}
-use mathlib.Core.Bool.{true}
 use mathlib.Core.List.{List, [], ◌++◌}
 use Prim.Native.Nat.{ℕ, zero, suc, ◌+◌, ◌-◌, ◌*◌, ◌^◌, ◌≤◌, ◌<◌}
 use native.Mathlib.Omega.{arith}
 use native.Mathlib.Nat.{suc-mul, add_comm, mul-le-mul_left}
-use borrow.Author.Tests.{ne_eqb, leb-true}
+use borrow.Author.Tests.{ne_eqb}
 use lib.ListN.{length, get_or, get_or-append}
 use lib.Seq.{sets, get_or-append-add}
 use Rattle.conditions.specs.Conditions.{stop_if}
@@ -19,11 +18,10 @@ use Rattle.plan_textures.specs.declared.TexturePlan.{TexturePlan}
 use Rattle.plan_textures.specs.Asking as X
 use Rattle.plan_kinds.specs.declared.Plan.{Plan}
 use Rattle.plan_kinds.specs.declared.Plan.TheVariants.{Buffers, BufferTexture, Textures}
-use Rattle.plan_kinds.specs.Regions.{left_of, fields_of, buffer_numbers, buffer_texture_numbers, texture_numbers, region_numbers, next_numbers, behind_of, textures_with}
+use Rattle.plan_kinds.specs.Regions.{left_of, fields_of, next_numbers, region_numbers, behind_of, textures_with}
 use Rattle.plan_kinds.proofs.Behind.{behind_left}
-use Rattle.plan_kinds.proofs.Numbers.{numbers_or_none}
 use Rattle.plan_kinds.proofs.Ranges.{numbers_with, next_with, behind_with}
-use Rattle.plan_writer.specs.Writing.{numbers_from, numbers_left, behind_all, fits, EveryEntry}
+use Rattle.plan_writer.specs.Writing.{numbers_from, numbers_left, behind_all, EveryEntry}
 use Rattle.rule_init_ranges.specs.declared.TextureInitRange.{TextureInitRange}
 
 -- ---- one region
@@ -34,7 +32,7 @@ some h e = omega arith
 module _ where
   -- a plan that has a region left gives as many numbers as a region has
   pub numbers_count : (p : Plan) → 0 < left_of p → length (region_numbers p) ≡ fields_of p
-  unfolding left_of fields_of region_numbers K.next_of L.next_of X.next_of stop_if buffer_numbers buffer_texture_numbers texture_numbers buffer_copy_numbers buffer_texture_copy_numbers texture_copy_numbers
+  unfolding left_of fields_of region_numbers next_numbers K.next_of L.next_of X.next_of stop_if buffer_copy_numbers buffer_texture_copy_numbers texture_copy_numbers
   numbers_count (Buffers p) h = rw (ne_eqb p.left 0 (some h))
   numbers_count (BufferTexture p) h = rw (ne_eqb p.left 0 (some h))
   numbers_count (Textures p) h = rw (ne_eqb p.left 0 (some h))
@@ -70,7 +68,8 @@ module _ {l₀ l : List ℕ} {p₀ p : Plan} {at : ℕ} (u : Underway l₀ l p�
   -- the answer holds the region's numbers
   module _ (answer : Option (List ℕ)) (is : answer ≡ next_numbers p) where
     numbers : unwrap_or answer [] ≡ region_numbers p
-    numbers = ap (λ (o : Option (List ℕ)). unwrap_or o []) is ∙ numbers_or_none p
+    unfolding region_numbers
+    numbers = ap (λ (o : Option (List ℕ)). unwrap_or o []) is
 
     pub answer_room : at + length (unwrap_or answer []) ≤ length l
     answer_room = rw numbers (omega (arith, numbers_count p h, one_of, u.room))
@@ -134,17 +133,10 @@ pub restored : (n : ℕ) (p q : TexturePlan) → Textures (textures_with None q)
 unfolding with_ranges
 restored n p q e = ap (with_ranges p.ranges) (e ∙ all_with None n p) ∙ sym (all_with p.ranges n p)
 
--- a plan of a kind that is known
-pub room_of : (n : ℕ) (p k : Plan) → p ≡ k → left_of p * fields_of p ≤ n → left_of k * fields_of k ≤ n
-room_of n p k e h = rw e at h
-
-pub all_of : (l m : List ℕ) (p k r : Plan) → p ≡ k → (r ≡ behind_all (left_of k) k) × (m ≡ sets l 0 (numbers_left k)) → (r ≡ behind_all (left_of p) p) × (m ≡ sets l 0 (numbers_left p))
-all_of l m p k r e h = rw e h
-
 -- ---- room
 
-pub product_fits : (left fields : ℕ) → left < 2 ^ 32 → fields ≤ 15 → left * fields < 2 ^ 64
-product_fits left fields h f = let p : left * fields ≤ left * 15 = mul-le-mul_left left f in omega arith
+pub product_fits : (p : Plan) → left_of p < 2 ^ 32 → left_of p * fields_of p < 2 ^ 64
+product_fits p h = let few : left_of p * fields_of p ≤ left_of p * 15 = mul-le-mul_left (left_of p) (fields_few p) in omega arith
 
 -- ---- where each number stands
 
@@ -168,9 +160,3 @@ entry (suc n) (suc k) f p e h g =
 pub every_entry : EveryEntry
 unfolding numbers_left
 every_entry p k f h g = entry (left_of p) k f p refl h g
-
--- ---- the whole
-
-pub long_enough : (p : Plan) (n : ℕ) → fits p n ≡ true → left_of p * fields_of p ≤ n
-unfolding fits
-long_enough p n is = leb-true _ _ is

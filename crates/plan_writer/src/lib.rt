@@ -1,6 +1,7 @@
 #![tactic(auto)]
 // Writes the regions left of a plan into a lent slice.
 ghost use Rattle.std.specs.Prelude.{◌≡◌, ◌+◌, ◌*◌, ◌≤◌, length, [], None, unwrap_or};
+ghost use Rattle.std.specs.Result.{result_map_both};
 ghost use Rattle.std.proofs.lemmas.List.Edits.{sets};
 ghost use Rattle.slices.specs.Put.{Put};
 ghost use Rattle.plan_kinds.specs.declared.Plan.{Plan};
@@ -14,27 +15,6 @@ use plan_kinds::{Plan, Regions};
 use plan_rows::Row;
 use plan_textures::TexturePlan;
 use refusals::TransferError;
-
-// The numbers of each region.
-fn fields_of(plan: Plan) -> u64
-    ensures value { result ≡ fields_of plan }
-    ensures few { result ≤ 15 }
-{
-    match plan {
-        Plan::Buffers(_) => 3,
-        Plan::BufferTexture(_) => 12,
-        Plan::Textures(_) => 15,
-    }
-}
-
-#[tactic(auto, using(crate::proofs::Writes::product_fits), unfolding(crate::specs::Writing::fits))]
-fn is_room(plan: Plan, room: usize) -> bool
-    ensures { result ≡ fits plan room }
-{
-    let fields = fields_of(plan);
-    let left = plan.left() as u64;
-    left * fields <= room as u64
-}
 
 #[tactic(auto, using(slices::proofs::Puts::put_copied))]
 fn store_row(out: &mut [u64], at: usize, row: &Row) -> usize
@@ -108,55 +88,81 @@ fn write_each<P: Regions>(plan: P, out: &mut [u64]) -> P
     p
 }
 
-pub fn write_buffers(plan: BufferPlan, out: &mut [u64]) -> BufferPlan
-    requires { plan.left * 3 ≤ length out.old }
-    ensures result_value { Plan.Buffers result ≡ behind_all plan.left (Plan.Buffers plan) }
-    ensures out_after { out.new ≡ sets out.old 0 (numbers_left (Plan.Buffers plan)) }
-{
-    write_each(plan, out)
+// A plan of one kind, as it is written.
+pub trait WriteRegions: Regions {
+    // The numbers of each region.
+    fn fields(self) -> u64
+        ensures { result ≡ fields_of (Self.held self) };
+
+    // The regions left, for which there is room, and the plan after them.
+    fn write_left(self, out: &mut [u64]) -> Self
+        requires { left_of (Self.held self) * fields_of (Self.held self) ≤ length out.old }
+        ensures value { Self.held result ≡ behind_all (left_of (Self.held self)) (Self.held self) }
+        ensures out_after { out.new ≡ sets out.old 0 (numbers_left (Self.held self)) }
+    {
+        write_each(self, out)
+    }
 }
 
-pub fn write_buffer_textures(plan: BufferTexturePlan, out: &mut [u64]) -> BufferTexturePlan
-    requires { plan.left * 12 ≤ length out.old }
-    ensures result_value { Plan.BufferTexture result ≡ behind_all plan.left (Plan.BufferTexture plan) }
-    ensures out_after { out.new ≡ sets out.old 0 (numbers_left (Plan.BufferTexture plan)) }
-{
-    write_each(plan, out)
+impl WriteRegions for BufferPlan {
+    #[tactic(auto, unfolding(plan_kinds::specs::Regions::fields_of))]
+    fn fields(self) -> u64 {
+        3
+    }
 }
 
-pub fn write_textures(plan: TexturePlan, out: &mut [u64]) -> TexturePlan
-    requires { plan.left * 15 ≤ length out.old }
-    ensures result_value { Plan.Textures result ≡ behind_all plan.left (Plan.Textures plan) }
-    ensures out_after { out.new ≡ sets out.old 0 (numbers_left (Plan.Textures plan)) }
-{
-    let ranges = plan.ranges;
-    let behind = write_each(BarePlan(plan), out);
-    TexturePlan { ranges, ..behind.0 }
+impl WriteRegions for BufferTexturePlan {
+    #[tactic(auto, unfolding(plan_kinds::specs::Regions::fields_of))]
+    fn fields(self) -> u64 {
+        12
+    }
 }
 
-fn write_all(plan: Plan, out: &mut [u64]) -> Plan
-    requires { left_of plan * fields_of plan ≤ length out.old }
-    ensures value { result ≡ behind_all (left_of plan) plan }
-    ensures out_after { out.new ≡ sets out.old 0 (numbers_left plan) }
-{
-    match plan {
-        Plan::Buffers(p) => Plan::Buffers(write_buffers(p, out)),
-        Plan::BufferTexture(p) => Plan::BufferTexture(write_buffer_textures(p, out)),
-        Plan::Textures(p) => Plan::Textures(write_textures(p, out)),
+impl WriteRegions for TexturePlan {
+    #[tactic(auto, unfolding(plan_kinds::specs::Regions::fields_of))]
+    fn fields(self) -> u64 {
+        15
+    }
+
+    fn write_left(self, out: &mut [u64]) -> TexturePlan {
+        let behind = write_each(BarePlan(self), out);
+        TexturePlan {
+            ranges: self.ranges,
+            ..behind.0
+        }
     }
 }
 
 // The regions left, in sequence from the slice's start, and the plan after them; no number past them changes. Where the slice is too short, 38,
 // and none at all.
-#[tactic(auto, using(crate::proofs::Writes::long_enough), unfolding(crate::specs::Writing::written_of, crate::specs::Writing::slots_of))]
+#[tactic(auto, using(crate::proofs::Writes::product_fits), unfolding(crate::specs::Writing::fits, crate::specs::Writing::written_of, crate::specs::Writing::slots_of))]
+pub fn write<P: WriteRegions>(plan: P, out: &mut [u64]) -> Result<P, TransferError>
+    ensures value { result_map_both P.held (λ e. e) result ≡ written_of (P.held plan) (length out.old) }
+    ensures out_after { out.new ≡ slots_of (P.held plan) out.old }
+{
+    if plan.regions_left() as u64 * plan.fields() > out.len() as u64 {
+        return Err(TransferError::RegionSliceTooShort);
+    }
+    Ok(plan.write_left(out))
+}
+
+fn write_as_plan<P: WriteRegions>(plan: P, out: &mut [u64]) -> Result<Plan, TransferError>
+    ensures value { result ≡ written_of (P.held plan) (length out.old) }
+    ensures out_after { out.new ≡ slots_of (P.held plan) out.old }
+{
+    let behind = write(plan, out)?;
+    Ok(behind.as_plan())
+}
+
+// The same for a plan of any kind.
 pub fn write_regions(plan: Plan, out: &mut [u64]) -> Result<Plan, TransferError>
     ensures value { result ≡ written_of plan (length out.old) }
     ensures out_after { out.new ≡ slots_of plan out.old }
 {
-    if is_room(plan, out.len()) {
-        Ok(write_all(plan, out))
-    } else {
-        Err(TransferError::RegionSliceTooShort)
+    match plan {
+        Plan::Buffers(p) => write_as_plan(p, out),
+        Plan::BufferTexture(p) => write_as_plan(p, out),
+        Plan::Textures(p) => write_as_plan(p, out),
     }
 }
 

@@ -89,8 +89,7 @@ fn is_within(least: u32, n: u32, most: u32) -> bool
 fn buffer_in_bounds(b: Buffer) -> bool
     ensures { result ≡ buffer_in_bounds b }
 {
-    let usage = b.usage;
-    conditions::both(b.size <= MAX_BUFFER_SIZE, usage.0 <= MAX_BUFFER_USAGE)
+    (b.size <= MAX_BUFFER_SIZE) & (b.usage.0 <= MAX_BUFFER_USAGE)
 }
 
 #[tactic(auto, unfolding(crate::specs::Bounds::size_in_bounds))]
@@ -152,31 +151,23 @@ fn has_levels_in_bounds(t: Texture) -> bool
     levels_in_bounds(dimension, size, t.mip_level_count)
 }
 
-// Nearly every record is within its bounds: a branch for each field takes less than joining the answers.
+// Nearly every record is within its bounds: a branch for each field (`&&`) takes less than joining the answers.
+#[tactic(auto, unfolding(crate::specs::Bounds::fields_in_bounds))]
 fn fields_in_bounds(t: Texture) -> bool
     ensures { result ≡ fields_in_bounds t }
 {
-    let usage = t.usage;
-    if !formats::is_format(t.format) {
-        return false;
-    }
-    if !is_within(1, t.dimension, 3) {
-        return false;
-    }
-    if !has_size_in_bounds(t) {
-        return false;
-    }
-    if !has_levels_in_bounds(t) {
-        return false;
-    }
-    usage.0 <= MAX_TEXTURE_USAGE
+    formats::is_format(t.format)
+        && is_within(1, t.dimension, 3)
+        && has_size_in_bounds(t)
+        && has_levels_in_bounds(t)
+        && t.usage.0 <= MAX_TEXTURE_USAGE
 }
 
 #[tactic(auto, unfolding(crate::specs::Bounds::may_be_multisampled))]
 fn may_be_multisampled(format: u32) -> bool
     ensures { result ≡ may_be_multisampled format }
 {
-    conditions::either(format <= 10, is_within(15, format, 20))
+    (format <= 10) | is_within(15, format, 20)
 }
 
 fn has_four_samples(t: Texture) -> bool
@@ -193,20 +184,18 @@ fn has_four_samples(t: Texture) -> bool
 }
 
 // Nearly every texture has one sample, hence a branch.
+#[tactic(auto, unfolding(crate::specs::Bounds::samples_in_bounds))]
 fn samples_in_bounds(t: Texture) -> bool
     ensures { result ≡ samples_in_bounds t }
 {
-    if t.sample_count == 1 {
-        return true;
-    }
-    has_four_samples(t)
+    t.sample_count == 1 || has_four_samples(t)
 }
 
 #[tactic(auto, unfolding(crate::specs::Bounds::dimension_suits))]
 fn dimension_suits(format: u32, dimension: u32) -> bool
     ensures { result ≡ dimension_suits format dimension }
 {
-    conditions::either(format <= 10, dimension == 2)
+    (format <= 10) | (dimension == 2)
 }
 
 #[tactic(auto, unfolding(crate::specs::Bounds::sides_whole))]
@@ -214,10 +203,7 @@ fn sides_whole(format: u32, e: Extent3d) -> bool
     ensures { result ≡ sides_whole format e }
 {
     let block = formats::block_dimensions(format);
-    conditions::both(
-        e.width.is_multiple_of(block.width),
-        e.height.is_multiple_of(block.height),
-    )
+    e.width.is_multiple_of(block.width) & e.height.is_multiple_of(block.height)
 }
 
 fn has_even_sides(t: Texture) -> bool
@@ -232,45 +218,32 @@ fn has_even_sides(t: Texture) -> bool
     ])
 }
 
+#[tactic(auto, unfolding(crate::specs::Bounds::planes_suit))]
 fn planes_suit(t: Texture) -> bool
     ensures { result ≡ planes_suit t }
 {
-    if !formats::is_multi_planar_format(t.format) {
-        return true;
-    }
-    has_even_sides(t)
+    !formats::is_multi_planar_format(t.format) || has_even_sides(t)
 }
 
+#[tactic(auto, unfolding(crate::specs::Bounds::format_suits))]
 fn format_suits(t: Texture) -> bool
     ensures { result ≡ format_suits t }
 {
-    let size = t.size;
-    if !dimension_suits(t.format, t.dimension) {
-        return false;
-    }
-    if !sides_whole(t.format, size) {
-        return false;
-    }
-    planes_suit(t)
+    dimension_suits(t.format, t.dimension) && sides_whole(t.format, t.size) && planes_suit(t)
 }
 
 // What the fields ask of each other.
 fn fields_agree(t: Texture) -> bool
     ensures { result ≡ (samples_in_bounds t && format_suits t) }
 {
-    if !samples_in_bounds(t) {
-        return false;
-    }
-    format_suits(t)
+    samples_in_bounds(t) && format_suits(t)
 }
 
+#[tactic(auto, unfolding(crate::specs::Bounds::texture_in_bounds))]
 fn texture_in_bounds(t: Texture) -> bool
     ensures { result ≡ texture_in_bounds t }
 {
-    if !fields_in_bounds(t) {
-        return false;
-    }
-    fields_agree(t)
+    fields_in_bounds(t) && fields_agree(t)
 }
 
 // A buffer whose record is within its bounds, or 3.

@@ -5,17 +5,18 @@ ghost use Rattle.refusals.specs.Numbers.{numbers_of, side_of, dimension_number, 
 
 use formats::TextureAspect;
 
+// The numbers are those that a refusal is reported with.
 #[derive(Clone, Copy, PartialEq, Eq)]
 pub enum CopySide {
-    Source,
-    Destination,
+    Source = 1,
+    Destination = 2,
 }
 
 #[derive(Clone, Copy)]
 pub enum TextureErrorDimension {
-    X,
-    Y,
-    Z,
+    X = 1,
+    Y = 2,
+    Z = 3,
 }
 
 // What a device may lack.
@@ -147,10 +148,7 @@ impl From<CopySide> for u32 {
 
     #[tactic(auto, unfolding(crate::specs::Numbers::side_of))]
     fn from(side: CopySide) -> u32 {
-        match side {
-            CopySide::Source => 1,
-            CopySide::Destination => 2,
-        }
+        side as u32
     }
 }
 
@@ -159,11 +157,7 @@ impl From<TextureErrorDimension> for u32 {
 
     #[tactic(auto, unfolding(crate::specs::Numbers::dimension_number))]
     fn from(dimension: TextureErrorDimension) -> u32 {
-        match dimension {
-            TextureErrorDimension::X => 1,
-            TextureErrorDimension::Y => 2,
-            TextureErrorDimension::Z => 3,
-        }
+        dimension as u32
     }
 }
 

@@ -50,10 +50,7 @@ impl Run {
     fn is_partial(self, exact: bool) -> bool
         ensures { result ≡ is_partial exact self.start.0 self.size.0 self.limit.0 }
     {
-        conditions::both(
-            exact,
-            conditions::either(self.start.0 != 0, self.size.0 != self.limit.0),
-        )
+        exact & ((self.start.0 != 0) | (self.size.0 != self.limit.0))
     }
 
     // Whether it leaves its limit. The sum is made in 64 bits, which hold it.
@@ -109,6 +106,7 @@ impl Run {
     }
 
     // Whether it lies inside its limit, and is all of it where it must be.
+    #[tactic(auto, unfolding(crate::specs::Inside::run_fits))]
     fn fits(self, exact: bool) -> bool
         ensures { result ≡ run_fits exact self.start self.size self.limit }
     {
@@ -116,7 +114,7 @@ impl Run {
         let count = self.size.0;
         let most = self.limit.0;
         if exact {
-            return conditions::both(from == 0, count == most);
+            return (from == 0) & (count == most);
         }
         from as u64 + count as u64 <= most as u64
     }
@@ -176,10 +174,7 @@ fn check_blocks(o: Origin3d, size: Extent3d, block: BlockDimensions) -> Result<(
 fn requires_exact(t: Texture) -> bool
     ensures { result ≡ requires_exact t }
 {
-    conditions::either(
-        formats::is_depth_stencil_format(t.format),
-        t.sample_count > 1,
-    )
+    formats::is_depth_stencil_format(t.format) | (t.sample_count > 1)
 }
 
 #[tactic(auto, unfolding(crate::specs::Range::subject_of))]
@@ -197,8 +192,7 @@ fn depth_of(dimension: TextureDimension, depth: u32) -> u32
     ensures { result ≡ depth_of dimension depth }
 {
     match dimension {
-        TextureDimension::D1 => 1,
-        TextureDimension::D2 => 1,
+        TextureDimension::D1 | TextureDimension::D2 => 1,
         TextureDimension::D3 => depth,
     }
 }
@@ -207,9 +201,8 @@ fn layers_of(dimension: TextureDimension, depth: u32) -> u32
     ensures { result ≡ layers_of dimension depth }
 {
     match dimension {
-        TextureDimension::D1 => 1,
         TextureDimension::D2 => depth,
-        TextureDimension::D3 => 1,
+        TextureDimension::D1 | TextureDimension::D3 => 1,
     }
 }
 
@@ -284,32 +277,26 @@ pub fn validate_texture_copy_range(
     ))
 }
 
-// Sides are read by their numbers: copied as they are, two of them become one 64-bit word that is taken apart again.
+#[tactic(auto, unfolding(crate::specs::Inside::sides_fit))]
 fn sides_fit(exact: bool, o: Origin3d, size: Extent3d, extent: Extent3d) -> bool
     ensures { result ≡ sides_fit exact o size extent }
 {
     let x = Run {
-        start: Texels(o.x.0),
-        size: Texels(size.width.0),
-        limit: Texels(extent.width.0),
+        start: o.x,
+        size: size.width,
+        limit: extent.width,
     };
-    if !x.fits(exact) {
-        return false;
-    }
     let y = Run {
-        start: Texels(o.y.0),
-        size: Texels(size.height.0),
-        limit: Texels(extent.height.0),
+        start: o.y,
+        size: size.height,
+        limit: extent.height,
     };
-    if !y.fits(exact) {
-        return false;
-    }
     let z = Run {
         start: Texels(o.z),
         size: Texels(size.depth_or_array_layers),
         limit: Texels(extent.depth_or_array_layers),
     };
-    z.fits(false)
+    x.fits(exact) && y.fits(exact) && z.fits(false)
 }
 
 // In one test, so that the whole is small enough for the compiler to inline on both sides of a copy.
@@ -317,14 +304,10 @@ fn sides_fit(exact: bool, o: Origin3d, size: Extent3d, extent: Extent3d) -> bool
 fn blocks_fit(o: Origin3d, size: Extent3d, block: BlockDimensions) -> bool
     ensures { result ≡ blocks_fit o size block }
 {
-    conditions::both(
-        o.x.is_multiple_of(block.width),
-        conditions::all([
-            o.y.is_multiple_of(block.height),
-            size.width.is_multiple_of(block.width),
-            size.height.is_multiple_of(block.height),
-        ]),
-    )
+    o.x.is_multiple_of(block.width)
+        & o.y.is_multiple_of(block.height)
+        & size.width.is_multiple_of(block.width)
+        & size.height.is_multiple_of(block.height)
 }
 
 #[tactic(auto, unfolding(crate::specs::Inside::extent_fits))]
@@ -354,16 +337,13 @@ fn alignment_fits(t: TextureSide, size: Extent3d) -> bool
 // Whether `validate_texture_copy_range` goes on, for callers that make the refusal only where it is needed. Inlined on both sides of a copy: as
 // a call it would keep the records of either side in memory.
 #[inline(always)]
+#[tactic(auto, using(crate::proofs::Inside::as_goes_on), unfolding(crate::specs::Inside::in_range))]
 pub fn is_in_range(t: CheckedSide, size: Extent3d) -> bool
     ensures { (side : CopySide) → result ≡ is_ok (range_checked t.side.view t.side.texture side size) }
 {
-    if t.side.texture.mip_level_count <= t.side.view.mip_level {
-        return false;
-    }
-    if !extent_fits(t, size) {
-        return false;
-    }
-    alignment_fits(t.side, size)
+    t.side.view.mip_level < t.side.texture.mip_level_count
+        && extent_fits(t, size)
+        && alignment_fits(t.side, size)
 }
 
 // Asks the check for the laws of an accepted range; nothing runs here.

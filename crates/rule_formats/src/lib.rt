@@ -26,10 +26,7 @@ fn is_depth_only(aspect: TextureAspect) -> bool
 fn is_src_depth(format: u32, aspect: TextureAspect) -> bool
     ensures { result ≡ (eqb format depth24plus_stencil8 && is_depth_only aspect) }
 {
-    conditions::both(
-        format == formats::DEPTH24_PLUS_STENCIL8,
-        is_depth_only(aspect),
-    )
+    (format == formats::DEPTH24_PLUS_STENCIL8) & is_depth_only(aspect)
 }
 
 #[tactic(auto, using(refusals::proofs::Order::ordered), unfolding(crate::specs::Rules::src_format_checks, refusals::specs::Order::decided))]
@@ -51,22 +48,15 @@ pub fn validate_texture_copy_src_format(
 fn is_forbidden_dst(format: u32) -> bool
     ensures { result ≡ (eqb format depth24plus || eqb format depth32float) }
 {
-    conditions::either(
-        format == formats::DEPTH24_PLUS,
-        format == formats::DEPTH32_FLOAT,
-    )
+    (format == formats::DEPTH24_PLUS) | (format == formats::DEPTH32_FLOAT)
 }
 
 fn is_dst_depth(format: u32, aspect: TextureAspect) -> bool
     ensures { result ≡ ((eqb format depth24plus_stencil8 || eqb format depth32float_stencil8) && is_depth_only aspect) }
 {
-    conditions::both(
-        conditions::either(
-            format == formats::DEPTH24_PLUS_STENCIL8,
-            format == formats::DEPTH32_FLOAT_STENCIL8,
-        ),
-        is_depth_only(aspect),
-    )
+    let has_depth = (format == formats::DEPTH24_PLUS_STENCIL8)
+        | (format == formats::DEPTH32_FLOAT_STENCIL8);
+    has_depth & is_depth_only(aspect)
 }
 
 #[tactic(auto, using(refusals::proofs::Order::ordered), unfolding(crate::specs::Rules::dst_format_checks, refusals::specs::Order::decided))]
@@ -97,27 +87,19 @@ fn offset_alignment(format: u32, aspect: TextureAspect) -> u64
     block
 }
 
+#[tactic(auto, unfolding(measures::specs::Measure::multiple))]
 fn is_unaligned_offset(format: u32, aspect: TextureAspect, offset: u64, aligned: bool) -> bool
     ensures { result ≡ (aligned && not (multiple offset (offset_alignment format aspect))) }
 {
     let alignment = offset_alignment(format, aspect);
-    conditions::both(aligned, offset % alignment != 0)
+    aligned & (offset % alignment != 0)
 }
 
 #[tactic(auto, unfolding(crate::specs::Rules::is_unaligned_row, measures::specs::Measure::multiple))]
-fn is_unaligned_value(bytes_per_row: Option<u32>) -> bool
-    ensures { result ≡ is_unaligned_row bytes_per_row }
-{
-    match bytes_per_row {
-        Some(n) => n % COPY_BYTES_PER_ROW_ALIGNMENT != 0,
-        None => false,
-    }
-}
-
 fn is_unaligned_row(bytes_per_row: Option<u32>, aligned: bool) -> bool
     ensures { result ≡ (aligned && is_unaligned_row bytes_per_row) }
 {
-    conditions::both(aligned, is_unaligned_value(bytes_per_row))
+    aligned & bytes_per_row.is_some_and(|n| n % COPY_BYTES_PER_ROW_ALIGNMENT != 0)
 }
 
 // `aspect` is the one asked for, `aspects` those chosen.

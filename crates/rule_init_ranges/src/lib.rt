@@ -14,10 +14,11 @@ use records::TextureSide;
 use refusals::CopySide;
 pub use span::BufferSpan;
 
+// The numbers are those that a kind is printed as.
 #[derive(Clone, Copy)]
 pub enum MemoryInitKind {
-    ImplicitlyInitialized,
-    NeedsInitializedMemory,
+    ImplicitlyInitialized = 0,
+    NeedsInitializedMemory = 1,
 }
 
 #[derive(Clone, Copy)]
@@ -43,16 +44,12 @@ pub struct BufferInitRanges {
     pub tail: Option<BufferInitRange>,
 }
 
-// A kind as it is printed.
 impl From<MemoryInitKind> for u32 {
     ghost from_gives = { λ kind n. n ≡ kind_number kind };
 
     #[tactic(auto, unfolding(crate::specs::Init::kind_number))]
     fn from(kind: MemoryInitKind) -> u32 {
-        match kind {
-            MemoryInitKind::ImplicitlyInitialized => 0,
-            MemoryInitKind::NeedsInitializedMemory => 1,
-        }
+        kind as u32
     }
 }
 
@@ -60,8 +57,7 @@ fn depth_differs(dimension: TextureDimension, depth: u32, level: u32) -> bool
     ensures { result ≡ depth_differs dimension depth level }
 {
     match dimension {
-        TextureDimension::D1 => false,
-        TextureDimension::D2 => false,
+        TextureDimension::D1 | TextureDimension::D2 => false,
         TextureDimension::D3 => depth != level,
     }
 }
@@ -70,17 +66,9 @@ fn depth_differs(dimension: TextureDimension, depth: u32, level: u32) -> bool
 fn size_differs(dimension: TextureDimension, size: Extent3d, level: Extent3d) -> bool
     ensures { result ≡ size_differs dimension size level }
 {
-    conditions::either(
-        size.width != level.width,
-        conditions::either(
-            size.height != level.height,
-            depth_differs(
-                dimension,
-                size.depth_or_array_layers,
-                level.depth_or_array_layers,
-            ),
-        ),
-    )
+    let depth = size.depth_or_array_layers;
+    let deep = depth_differs(dimension, depth, level.depth_or_array_layers);
+    (size.width != level.width) | (size.height != level.height) | deep
 }
 
 #[tactic(auto, unfolding(crate::specs::Init::is_partial_cover))]
@@ -89,21 +77,15 @@ fn has_copy_partial_init_tracker_coverage(copy_size: Extent3d, t: TextureSide) -
 {
     let dimension = TextureDimension::from(t.texture.dimension);
     let level = records::logical_extent(t);
-    conditions::either(
-        size_differs(dimension, copy_size, level),
-        t.view.aspect != TextureAspect::All,
-    )
+    size_differs(dimension, copy_size, level) | (t.view.aspect != TextureAspect::All)
 }
 
 fn init_layers(dimension: TextureDimension, z: u32, depth: u32) -> Range
     ensures { result ≡ init_layers dimension z depth }
 {
-    let start = z as u64;
-    let end = start + (depth as u64);
     match dimension {
-        TextureDimension::D1 => Range { start, end },
-        TextureDimension::D2 => Range { start, end },
-        TextureDimension::D3 => Range { start: 0, end: 1 },
+        TextureDimension::D1 | TextureDimension::D2 => Range::counted(z, depth),
+        TextureDimension::D3 => Range::counted(0, 1),
     }
 }
 
@@ -168,10 +150,7 @@ pub fn range_unless(
 ) -> Option<BufferInitRange>
     ensures { result ≡ unless holds (buffer_range start end kind) }
 {
-    if holds {
-        return None;
-    }
-    Some(BufferInitRange { start, end, kind })
+    (!holds).then_some(BufferInitRange { start, end, kind })
 }
 
 impl BufferSpan {
@@ -186,15 +165,14 @@ impl BufferSpan {
     fn outward(self) -> BufferInitRanges
         ensures { result ≡ outward self.offset (self.offset + self.bytes) }
     {
-        let whole = range_unless(
-            false,
-            aligned_down(self.offset),
-            aligned_up(self.end()),
-            MemoryInitKind::NeedsInitializedMemory,
-        );
+        let whole = BufferInitRange {
+            start: aligned_down(self.offset),
+            end: aligned_up(self.end()),
+            kind: MemoryInitKind::NeedsInitializedMemory,
+        };
         BufferInitRanges {
             head: None,
-            whole,
+            whole: Some(whole),
             tail: None,
         }
     }
@@ -216,10 +194,11 @@ impl BufferSpan {
     }
 }
 
+#[tactic(auto, using(crate::proofs::Alike::same_source), unfolding(crate::specs::Init::is_source))]
 fn is_outward(direction: CopySide, is_contiguous: bool) -> bool
     ensures { result ≡ (not is_contiguous || is_source direction) }
 {
-    conditions::either(!is_contiguous, direction == CopySide::Source)
+    !is_contiguous | (direction == CopySide::Source)
 }
 
 // The ranges of a copy of a span of a buffer, which is its source or its destination.

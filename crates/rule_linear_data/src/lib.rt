@@ -50,27 +50,21 @@ fn stacked(items: u64, stride: u64, last: u64) -> Option<u64>
 fn is_below(value: Option<u32>, least: u64) -> bool
     ensures { result ≡ is_below value least }
 {
-    match value {
-        Some(n) => (n as u64) < least,
-        None => false,
-    }
+    value.is_some_and(|n| (n as u64) < least)
 }
 
 #[tactic(auto, unfolding(crate::specs::Linear::lacks))]
 fn is_lacking(value: Option<u32>, needed: bool) -> bool
     ensures { result ≡ lacks value needed }
 {
-    match value {
-        Some(_) => false,
-        None => needed,
-    }
+    value.is_none() && needed
 }
 
 #[tactic(auto, unfolding(crate::specs::Linear::several_rows))]
 fn several_rows(d: Dense) -> bool
     ensures { result ≡ several_rows d }
 {
-    conditions::either(d.images > 1, d.rows.0 > 1)
+    (d.images > 1) | (d.rows.0 > 1)
 }
 
 #[tactic(auto, unfolding(crate::specs::Linear::several_images))]
@@ -84,10 +78,9 @@ fn several_images(d: Dense) -> bool
 fn contiguous(d: Dense, s: Span) -> bool
     ensures { result ≡ is_contiguous_copy d s }
 {
-    conditions::both(
-        conditions::either(s.row_stride == d.row_bytes, !several_rows(d)),
-        conditions::either(s.image_stride == s.image_bytes, !several_images(d)),
-    )
+    let rows = (s.row_stride == d.row_bytes) | !several_rows(d);
+    let images = (s.image_stride == s.image_bytes) | !several_images(d);
+    rows & images
 }
 
 #[tactic(auto, unfolding(crate::specs::Linear::data_of))]
@@ -99,18 +92,6 @@ fn linear_data(d: Dense, s: Span) -> LinearData
         image_stride: s.image_stride,
         is_contiguous: contiguous(d, s),
     }
-}
-
-fn needs_bytes_per_row(value: Option<u32>, d: Dense) -> bool
-    ensures { result ≡ lacks value (several_rows d) }
-{
-    is_lacking(value, several_rows(d))
-}
-
-fn needs_rows_per_image(value: Option<u32>, d: Dense) -> bool
-    ensures { result ≡ lacks value (several_images d) }
-{
-    is_lacking(value, several_images(d))
 }
 
 // A copy's bytes and where they are to lie: how rows and images follow each other, and the size of the buffer, or the memory, on which side.
@@ -127,10 +108,10 @@ impl LinearCopy {
     fn check_span(self, s: Span) -> Result<LinearData, TransferError>
         ensures { result ≡ placed self.layout self.buffer_size self.side self.dense s }
     {
-        if needs_bytes_per_row(self.layout.bytes_per_row, self.dense) {
+        if is_lacking(self.layout.bytes_per_row, several_rows(self.dense)) {
             return Err(TransferError::UnspecifiedBytesPerRow);
         }
-        if needs_rows_per_image(self.layout.rows_per_image, self.dense) {
+        if is_lacking(self.layout.rows_per_image, several_images(self.dense)) {
             return Err(TransferError::UnspecifiedRowsPerImage);
         }
         let offset = self.layout.offset;

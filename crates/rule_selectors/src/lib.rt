@@ -2,7 +2,7 @@
 // `extract_texture_selector` and `validate_copy_within_same_texture` of command/transfer.rs.
 ghost use Rattle.std.specs.Prelude.{◌≡◌, ◌+◌, nat_lt};
 ghost use Rattle.refusals.specs.Order.{checked};
-ghost use Rattle.rule_selectors.specs.Selector.{range as range_of, layer_of, z_of, layer_range, selector_of, base_of, next_layer, selector_checked, overlaps, same_texture_checks};
+ghost use Rattle.rule_selectors.specs.Selector.{layer_of, z_of, layer_range, selector_of, base_of, next_layer, selector_checked, overlaps, same_texture_checks};
 
 use flags::FormatAspects;
 use measures::{Extent3d, Origin3d, Range};
@@ -30,9 +30,8 @@ fn layer_of(dimension: TextureDimension, z: u32) -> u32
     ensures { result ≡ layer_of dimension z }
 {
     match dimension {
-        TextureDimension::D1 => 0,
         TextureDimension::D2 => z,
-        TextureDimension::D3 => 0,
+        TextureDimension::D1 | TextureDimension::D3 => 0,
     }
 }
 
@@ -40,20 +39,8 @@ fn z_of(dimension: TextureDimension, z: u32) -> u32
     ensures { result ≡ z_of dimension z }
 {
     match dimension {
-        TextureDimension::D1 => 0,
-        TextureDimension::D2 => 0,
+        TextureDimension::D1 | TextureDimension::D2 => 0,
         TextureDimension::D3 => z,
-    }
-}
-
-// From a start on, as many as counted.
-fn run(start: u32, count: u32) -> Range
-    ensures { result ≡ range_of start (start + count) }
-{
-    let start = start as u64;
-    Range {
-        start,
-        end: start + (count as u64),
     }
 }
 
@@ -61,9 +48,8 @@ fn layer_range(dimension: TextureDimension, z: u32, depth: u32) -> Range
     ensures { result ≡ layer_range dimension z depth }
 {
     match dimension {
-        TextureDimension::D1 => Range { start: 0, end: 1 },
-        TextureDimension::D2 => run(z, depth),
-        TextureDimension::D3 => Range { start: 0, end: 1 },
+        TextureDimension::D2 => Range::counted(z, depth),
+        TextureDimension::D1 | TextureDimension::D3 => Range::counted(0, 1),
     }
 }
 
@@ -73,7 +59,7 @@ fn selector_of(t: TextureSide, size: Extent3d) -> TextureSelector
 {
     let dimension = TextureDimension::from(t.texture.dimension);
     TextureSelector {
-        mips: run(t.view.mip_level, 1),
+        mips: Range::counted(t.view.mip_level, 1),
         layers: layer_range(dimension, t.view.origin.z, size.depth_or_array_layers),
     }
 }
@@ -140,14 +126,12 @@ fn is_overlap(
 {
     let src_aspects = formats::chosen_aspects(format, src.aspect);
     let dst_aspects = formats::chosen_aspects(format, dst.aspect);
-    conditions::both(
+    conditions::all([
         src_aspects.meets(dst_aspects),
-        conditions::all([
-            is_below_end(src.origin.z, dst.origin.z, layers),
-            is_below_end(dst.origin.z, src.origin.z, layers),
-            src.mip_level == dst.mip_level,
-        ]),
-    )
+        is_below_end(src.origin.z, dst.origin.z, layers),
+        is_below_end(dst.origin.z, src.origin.z, layers),
+        src.mip_level == dst.mip_level,
+    ])
 }
 
 #[tactic(auto, using(refusals::proofs::Order::ordered), unfolding(crate::specs::Selector::same_texture_checks, refusals::specs::Order::decided))]

@@ -7,8 +7,7 @@ use Prim.Native.Nat.{ℕ, ◌≤◌, ◌<◌}
 use native.Mathlib.Omega.{arith}
 use lib.ListN.{length}
 use borrow.Rule.Slice.PartMut.{mid_of, put_mid, same_len_mid}
-use Prim.{tt}
-use Rattle.std.specs.Prelude.{Result, Ok, Err, IsErr, is_ok}
+use Rattle.std.specs.Prelude.{is_ok}
 use Rattle.sheet_calls.specs.declared.Received.{Received}
 use Rattle.sheet_io.specs.declared.Progress.{Progress}
 use Rattle.sheet_io.specs.Progress.{written_of, got_of, has_failed, start_of, goes_on, place_of}

@@ -1,5 +1,5 @@
 -- What the calls of `read` and `write` were, whatever the system answered to them.
-use Rattle.std.specs.Prelude.{◌≡◌, Bool, true, false, not, List, ℕ, ◌≤◌, length, take, Result, IfOk, is_ok}
+use Rattle.std.specs.Prelude.{◌≡◌, Bool, true, false, not, List, ℕ, ◌≤◌, length, take, Result, is_ok}
 use Rattle.sheet_io.specs.declared.Failure.{Failure}
 use Rattle.sheet_io.specs.declared.Progress.{Progress}
 use Rattle.sheet_io.specs.Progress.{written_of, got_of, has_failed, start_of, after_of, goes_on, place_of}

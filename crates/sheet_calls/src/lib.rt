@@ -93,10 +93,7 @@ fn ended(p: Progress, refusal: Option<io::Error>) -> Result<(), Error>
     if !p.stage.has_failed() {
         return Ok(());
     }
-    match refusal {
-        Some(error) => Err(Error::Refused(error)),
-        None => Err(Error::Stalled),
-    }
+    Err(refusal.map_or(Error::Stalled, Error::Refused))
 }
 
 // Writes some bytes, and answers whether all of them were written.
@@ -140,10 +137,9 @@ fn say_error<P: Print>(to: &P, error: &io::Error) {
     let _ = write!(text, "{error}");
     let room = text.into_inner();
     let line = str::from_utf8(&room).unwrap_or("").trim_end_matches('\0');
-    let words = match line.rsplit_once(" (os error ") {
-        Some((words, _)) => words,
-        None => line,
-    };
+    let words = line
+        .rsplit_once(" (os error ")
+        .map_or(line, |(words, _)| words);
     let _ = to.write_all(words.as_bytes());
 }
 

@@ -23,23 +23,28 @@ use Rattle.sheet_copies.specs.CopyLines.{named_copy, buffers_planned, copy_plann
 
 -- ---- an index was looked at
 
-module _ (R : Type 0) (rest x : Result R TransferError) (t : Bool) (n : ℕ) (r : Result ℕ TransferError) where
-  pub index_hands : (e : TransferError) → r ≡ decided (refuse_if t InvalidSheetIndex ∷ []) (Ok n) → r ≡ Err e → IsErrAnd x (λ d. d ≡ e) → x ≡ first (refuse_if t InvalidSheetIndex) rest
+module _ {R V : Type 0} {x : Result R TransferError} {r : Result V TransferError} (rest : Result R TransferError) (t : Bool) (n : V) where
+  pub index_hands : {e : TransferError} → r ≡ decided (refuse_if t InvalidSheetIndex ∷ []) (Ok n) → r ≡ Err e → IsErrAnd x (λ d. d ≡ e) → x ≡ first (refuse_if t InvalidSheetIndex) rest
   unfolding decided first refuse_if
-  index_hands e is h k = found t (sym is ∙ h)
+  index_hands {e} is h k = found t (sym is ∙ h)
     where
       found : (t : Bool) → decided (refuse_if t InvalidSheetIndex ∷ []) (Ok n) ≡ Err e → x ≡ first (refuse_if t InvalidSheetIndex) rest
       found true q = handed_up x e k ∙ ap Err (sym (same_refusal q))
       found false q = absurd (no_refusal (sym q))
 
-  -- else it is the field's
-  pub index_passes : (k : ℕ) → r ≡ decided (refuse_if t InvalidSheetIndex ∷ []) (Ok n) → r ≡ Ok k → (k ≡ n → x ≡ rest) → x ≡ first (refuse_if t InvalidSheetIndex) rest
+  -- else it is what the field names
+  pub index_passes : {k : V} → r ≡ decided (refuse_if t InvalidSheetIndex ∷ []) (Ok n) → r ≡ Ok k → (k ≡ n → x ≡ rest) → x ≡ first (refuse_if t InvalidSheetIndex) rest
   unfolding decided first refuse_if
-  index_passes k is h go = found t (sym is ∙ h)
+  index_passes {k} is h go = found t (sym is ∙ h)
     where
       found : (t : Bool) → decided (refuse_if t InvalidSheetIndex ∷ []) (Ok n) ≡ Ok k → x ≡ first (refuse_if t InvalidSheetIndex) rest
       found true q = absurd (no_refusal q)
       found false q = go (sym (same_value q))
+
+-- the same of a record with its index
+module _ {R V : Type 0} {x : Result R TransferError} {r : Result (ℕ × V) TransferError} (rest : Result R TransferError) (t : Bool) (n : ℕ) (m : V) where
+  pub named_passes : {k : ℕ} {v : V} → r ≡ decided (refuse_if t InvalidSheetIndex ∷ []) (Ok (n, m)) → r ≡ Ok (k, v) → (k ≡ n → v ≡ m → x ≡ rest) → x ≡ first (refuse_if t InvalidSheetIndex) rest
+  named_passes is h go = index_passes _ _ _ is h λ e. go (ap (λ (p : ℕ × V). p.0) e) (ap (λ (p : ℕ × V). p.1) e)
 
 -- ---- by the line's kind
 

@@ -8,6 +8,8 @@ use Rattle.records.specs.declared.Buffer.{Buffer}
 use Rattle.records.specs.declared.Device.{Device}
 use Rattle.records.specs.declared.Texture.{Texture}
 use Rattle.records.specs.declared.TextureSide.{TextureSide}
+use Rattle.copy_buffer_texture.specs.declared.LinearTextureCopy.{LinearTextureCopy}
+use Rattle.copy_buffers.specs.declared.BufferSide.{BufferSide}
 use Rattle.copy_kinds.specs.Planned.{planned_buffers, planned_upload, planned_memory_upload, planned_download, planned_textures}
 use Rattle.sheet_fields.specs.declared.Line.{Line}
 use Rattle.sheet_sections.specs.Rows.{textures, buffers, section_line}
@@ -22,9 +24,17 @@ texture_at s places k = texture_of (section_line s textures (get_or places k 0))
 unfoldable pub buffer_at : List ℕ → List ℕ → ℕ → Buffer
 buffer_at s places k = buffer_of (section_line s buffers (get_or places k 0))
 
+-- from field i on: buffer, offset
+unfoldable pub buffer_side_at : List ℕ → List ℕ → Line → ℕ → BufferSide
+buffer_side_at s places l i = record { index = word_of l i; buffer = buffer_at s places (word_of l i); offset = value_of l (i + 1) }
+
 -- from field i on: texture, level, x, y, z, aspect
 unfoldable pub texture_side_at : List ℕ → List ℕ → Line → ℕ → TextureSide
 texture_side_at s places l i = record { texture = texture_at s places (word_of l i); view = view_of l (i + 1) }
+
+-- of a copy between a texture and a buffer, or memory
+abbrev pub linear_copy : Device → Line → TextureSide → LinearTextureCopy
+linear_copy device l side = record { device = device; layout = layout_of l; texture = side; size = extent_of l 11 }
 
 -- ---- the answer to a line
 

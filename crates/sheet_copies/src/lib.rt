@@ -1,38 +1,31 @@
 #![tactic(auto)]
 // A copy line of a job sheet, with the records that it names: its plan or refusal.
-ghost use Rattle.std.specs.Prelude.{◌≡◌, ◌∷◌, [], Ok, get_or};
+ghost use Rattle.std.specs.Prelude.{◌≡◌, ◌<◌, ◌∷◌, [], Ok, get_or};
 ghost use Rattle.refusals.specs.Order.{refuse_if, decided};
 ghost use Rattle.refusals.specs.declared.TransferError.TheVariants.{InvalidSheetIndex};
 ghost use Rattle.sheet_records.specs.Records.{word_of};
 ghost use Rattle.sheet_copies.specs.Answers.{device_at};
-ghost use Rattle.sheet_copies.specs.CopyLines.{texture_at, buffer_at, past, buffers_planned, upload_planned, download_planned, memory_planned, textures_planned, line_planned};
+ghost use Rattle.sheet_copies.specs.CopyLines.{buffer_at, buffer_side_at, texture_side_at, linear_copy, past, buffers_planned, upload_planned, download_planned, memory_planned, textures_planned, line_planned};
 
 mod places;
 
+use copy_buffer_texture::LinearTextureCopy;
+use copy_buffers::BufferSide;
 use copy_kinds::Ranges;
 pub use places::Places;
 use plan_kinds::Plan;
-use records::{Buffer, Device, Texture, TextureSide};
+use records::{Buffer, Device, TextureSide};
 use refusals::TransferError;
 use sheet_fields::Line;
 use sheet_sections::{CopyKind, Parts, Section};
 
-// The index that a field has; one past its section is refused.
+// Where the line of a record begins. An index past its section is refused.
 #[tactic(auto, using(refusals::proofs::Order::ordered), unfolding(crate::specs::CopyLines::past, refusals::specs::Order::decided))]
-fn index_in(places: &[usize], l: Line, i: usize) -> Result<u32, TransferError>
-    ensures { result ≡ decided (refuse_if (past places.now (word_of l i)) InvalidSheetIndex ∷ []) (Ok (word_of l i)) }
+fn find_place(places: &[usize], k: u32) -> Result<usize, TransferError>
+    ensures { result ≡ decided (refuse_if (past places.now k) InvalidSheetIndex ∷ []) (Ok (get_or places.now k 0)) }
 {
-    let k = sheet_records::word_of(l, i);
-    if places.len() <= k as usize {
-        return Err(TransferError::InvalidSheetIndex);
-    }
-    Ok(k)
-}
-
-fn place_at(places: &[usize], k: u32) -> usize
-    ensures { result ≡ get_or places.now k 0 }
-{
-    places.get(k as usize).copied().unwrap_or(0)
+    let place = places.get(k as usize).copied();
+    place.ok_or(TransferError::InvalidSheetIndex)
 }
 
 // What a copy line is read with: the sheet's bytes, where its texture and buffer lines begin, and its device.
@@ -45,92 +38,96 @@ pub struct Sheet<'a> {
 }
 
 impl Sheet<'_> {
-    #[tactic(auto, unfolding(crate::specs::CopyLines::texture_at))]
-    fn texture_at(self, k: u32) -> Texture
-        ensures { result ≡ texture_at self.entry.text.now self.entry.textures.now k }
+    // The buffer that a field names, with its index. Inlined: a call would copy the line, which is long.
+    #[inline(always)]
+    fn buffer_at(self, l: Line, i: usize) -> Result<(u32, Buffer), TransferError>
+        ensures { result ≡ decided (refuse_if (past self.entry.buffers.now (word_of l i)) InvalidSheetIndex ∷ []) (Ok (word_of l i, buffer_at self.entry.text.now self.entry.buffers.now (word_of l i))) }
     {
-        let at = place_at(self.textures, k);
-        sheet_records::texture_of(sheet_sections::read_row(self.text, Section::Textures, at))
+        let index = sheet_records::word_of(l, i);
+        let place = find_place(self.buffers, index)?;
+        let row = sheet_sections::read_row(self.text, Section::Buffers, place);
+        Ok((index, sheet_records::buffer_of(row)))
     }
 
-    #[tactic(auto, unfolding(crate::specs::CopyLines::buffer_at))]
-    fn buffer_at(self, k: u32) -> Buffer
-        ensures { result ≡ buffer_at self.entry.text.now self.entry.buffers.now k }
+    // A buffer and the offset in it, from a field on.
+    fn buffer_side_at(self, l: Line, i: usize) -> Result<BufferSide, TransferError>
+        requires { i < 16 }
+        ensures { result ≡ decided (refuse_if (past self.entry.buffers.now (word_of l i)) InvalidSheetIndex ∷ []) (Ok (buffer_side_at self.entry.text.now self.entry.buffers.now l i)) }
     {
-        let at = place_at(self.buffers, k);
-        sheet_records::buffer_of(sheet_sections::read_row(self.text, Section::Buffers, at))
+        let (index, buffer) = self.buffer_at(l, i)?;
+        Ok(BufferSide {
+            index,
+            buffer,
+            offset: sheet_records::value_of(l, i + 1),
+        })
+    }
+
+    // The texture and the part of it that the fields from one on name, with the texture's index. Inlined for the same reason.
+    #[inline(always)]
+    fn texture_side_at(self, l: Line, i: usize) -> Result<(u32, TextureSide), TransferError>
+        requires { i < 16 }
+        ensures { result ≡ decided (refuse_if (past self.entry.textures.now (word_of l i)) InvalidSheetIndex ∷ []) (Ok (word_of l i, texture_side_at self.entry.text.now self.entry.textures.now l i)) }
+    {
+        let index = sheet_records::word_of(l, i);
+        let place = find_place(self.textures, index)?;
+        let row = sheet_sections::read_row(self.text, Section::Textures, place);
+        let side = TextureSide {
+            texture: sheet_records::texture_of(row),
+            view: sheet_records::view_of(l, i + 1),
+        };
+        Ok((index, side))
     }
 
     fn plan_buffers(self, l: Line) -> Result<(Plan, Ranges), TransferError>
         ensures { result ≡ buffers_planned self.entry.text.now self.entry.buffers.now self.entry.device l }
     {
-        let i = index_in(self.buffers, l, 1)?;
-        let j = index_in(self.buffers, l, 3)?;
-        let src = self.buffer_at(i);
-        let dst = self.buffer_at(j);
-        let from = sheet_records::value_of(l, 2);
-        let to = sheet_records::value_of(l, 4);
+        let src = self.buffer_side_at(l, 1)?;
+        let dst = self.buffer_side_at(l, 3)?;
         let size = sheet_records::size_of(l);
-        copy_kinds::plan_buffers(self.device, i, src, from, j, dst, to, size)
+        copy_kinds::plan_buffers(self.device, src, dst, size)
+    }
+
+    // The copy between a texture and a buffer, or memory, of whose line the other fields are read here.
+    fn linear_copy(self, l: Line, texture: TextureSide) -> LinearTextureCopy
+        ensures { result ≡ linear_copy self.entry.device l texture }
+    {
+        LinearTextureCopy {
+            device: self.device,
+            layout: sheet_records::layout_of(l),
+            texture,
+            size: sheet_records::extent_of(l, 11),
+        }
     }
 
     fn plan_upload(self, l: Line) -> Result<(Plan, Ranges), TransferError>
         ensures { result ≡ upload_planned self.entry.text.now self.entry.textures.now self.entry.buffers.now self.entry.device l }
     {
-        let i = index_in(self.buffers, l, 1)?;
-        let j = index_in(self.textures, l, 5)?;
-        let src = self.buffer_at(i);
-        let layout = sheet_records::layout_of(l);
-        let dst = TextureSide {
-            texture: self.texture_at(j),
-            view: sheet_records::view_of(l, 6),
-        };
-        let size = sheet_records::extent_of(l, 11);
-        copy_kinds::plan_upload(self.device, i, src, layout, j, dst, size)
+        let (i, src) = self.buffer_at(l, 1)?;
+        let (j, dst) = self.texture_side_at(l, 5)?;
+        copy_kinds::plan_upload(i, src, j, self.linear_copy(l, dst))
     }
 
     fn plan_download(self, l: Line) -> Result<(Plan, Ranges), TransferError>
         ensures { result ≡ download_planned self.entry.text.now self.entry.textures.now self.entry.buffers.now self.entry.device l }
     {
-        let i = index_in(self.buffers, l, 1)?;
-        let j = index_in(self.textures, l, 5)?;
-        let src = TextureSide {
-            texture: self.texture_at(j),
-            view: sheet_records::view_of(l, 6),
-        };
-        let dst = self.buffer_at(i);
-        let layout = sheet_records::layout_of(l);
-        let size = sheet_records::extent_of(l, 11);
-        copy_kinds::plan_download(self.device, j, src, i, dst, layout, size)
+        let (i, dst) = self.buffer_at(l, 1)?;
+        let (j, src) = self.texture_side_at(l, 5)?;
+        copy_kinds::plan_download(j, self.linear_copy(l, src), i, dst)
     }
 
     fn plan_memory(self, l: Line) -> Result<(Plan, Ranges), TransferError>
         ensures { result ≡ memory_planned self.entry.text.now self.entry.textures.now self.entry.device l }
     {
-        let j = index_in(self.textures, l, 5)?;
+        let (j, dst) = self.texture_side_at(l, 5)?;
         let length = sheet_records::value_of(l, 1);
-        let layout = sheet_records::layout_of(l);
-        let dst = TextureSide {
-            texture: self.texture_at(j),
-            view: sheet_records::view_of(l, 6),
-        };
-        let size = sheet_records::extent_of(l, 11);
-        copy_kinds::plan_memory_upload(self.device, length, layout, j, dst, size)
+        copy_kinds::plan_memory_upload(length, j, self.linear_copy(l, dst))
     }
 
     fn plan_textures(self, l: Line) -> Result<(Plan, Ranges), TransferError>
         ensures { result ≡ textures_planned self.entry.text.now self.entry.textures.now l }
     {
-        let i = index_in(self.textures, l, 1)?;
-        let j = index_in(self.textures, l, 7)?;
-        let src = TextureSide {
-            texture: self.texture_at(i),
-            view: sheet_records::view_of(l, 2),
-        };
-        let dst = TextureSide {
-            texture: self.texture_at(j),
-            view: sheet_records::view_of(l, 8),
-        };
+        let (i, src) = self.texture_side_at(l, 1)?;
+        let (j, dst) = self.texture_side_at(l, 7)?;
         let size = sheet_records::extent_of(l, 13);
         copy_kinds::plan_textures(i, src, j, dst, size)
     }

@@ -11,20 +11,9 @@ pub struct Places {
 }
 
 impl Places {
-    ghost use Rattle.std.specs.Prelude.{◌≡◌, [], min};
+    ghost use Rattle.std.specs.Prelude.{◌≡◌, min};
     ghost use Rattle.sheet_sections.specs.Rows.{places_of};
     ghost use Rattle.sheet_copies.specs.Answers.{starts_of};
-
-    // None, as of a sheet that is ill.
-    #[tactic(auto, unfolding(crate::specs::Answers::starts_of))]
-    pub fn none() -> Places
-        ensures { starts_of result ≡ [] }
-    {
-        Places {
-            starts: [0; MAX_RECORDS],
-            count: 0,
-        }
-    }
 
     // The places of a section's lines. A good sheet has no more than there is room for.
     pub fn find(s: &[u8], section: Section, part: Part) -> Places

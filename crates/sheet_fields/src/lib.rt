@@ -1,7 +1,7 @@
 #![tactic(auto)]
 // Fields of decimal text, and lines of fields. What a field may hold goes by its kind, so that one reader reads every line.
 ghost use Rattle.std.specs.Prelude.{◌≡◌, ◌+◌, ◌≤◌, None, length, drop, get_or};
-ghost use Rattle.sheet_fields.specs.Codes.{rule, rule_of};
+ghost use Rattle.sheet_fields.specs.Codes.{rule_of};
 ghost use Rattle.sheet_fields.specs.Field.{is_gap, token, plain, decimal_of, push_of, is_dash, token_of, field_of};
 ghost use Rattle.sheet_fields.specs.Line.{line_values, no_line, line_of, separator_of};
 ghost use Rattle.sheet_fields.specs.Laws.{FieldLaws};
@@ -64,26 +64,20 @@ pub fn no_line() -> Line
     }
 }
 
-fn numbers(least: u64, most: u64, dash: bool) -> Rule
-    ensures { result ≡ rule least most dash }
-{
-    Rule { least, most, dash }
-}
-
 #[tactic(auto, unfolding(crate::specs::Codes::rule_of))]
 fn rule_of(kind: FieldKind) -> Rule
     ensures { result ≡ rule_of kind }
 {
-    match kind {
-        FieldKind::Word => numbers(0, 4294967295, false),
-        FieldKind::Long => numbers(0, u64::MAX, false),
-        FieldKind::WordOrDash => numbers(0, 4294967295, true),
-        FieldKind::LongOrDash => numbers(0, u64::MAX, true),
-        FieldKind::Aspect => numbers(0, 5, false),
-        FieldKind::Fact => numbers(0, 1, false),
-        FieldKind::CopyKind => numbers(1, 5, false),
-        FieldKind::Count => numbers(0, 256, false),
-    }
+    let (least, most) = match kind {
+        FieldKind::Word | FieldKind::WordOrDash => (0, u64::from(u32::MAX)),
+        FieldKind::Long | FieldKind::LongOrDash => (0, u64::MAX),
+        FieldKind::Aspect => (0, 5),
+        FieldKind::Fact => (0, 1),
+        FieldKind::CopyKind => (1, 5),
+        FieldKind::Count => (0, 256),
+    };
+    let dash = matches!(kind, FieldKind::WordOrDash | FieldKind::LongOrDash);
+    Rule { least, most, dash }
 }
 
 #[tactic(auto, unfolding(crate::specs::Field::is_gap))]
@@ -158,7 +152,7 @@ fn is_dash(t: &[u8]) -> bool
 fn read_token(t: &[u8], rule: Rule, next: usize) -> Option<Field>
     ensures { result ≡ token_of t.now rule next }
 {
-    if conditions::both(rule.dash, is_dash(t)) {
+    if rule.dash && is_dash(t) {
         return Some(Field { value: None, next });
     }
     let v = read_decimal(t, rule.most)?;

@@ -1,6 +1,6 @@
 -- Lengths of lines, and lines that are put one after the other.
 -- Assumes nothing.
-use Rattle.std.specs.Prelude.{Option, Some, None, Result, Ok, Err, unwrap_or}
+use Rattle.std.specs.Prelude.{Option, Some, None, Result, Ok, Err, option_map, unwrap_or}
 use mathlib.Core.Path.{◌≡◌, refl, sym, ap, ◌∙◌}
 use mathlib.Core.Bool.{Bool, true, false}
 use mathlib.Core.List.{List, [], ◌∷◌, ◌++◌, append-nil}
@@ -17,7 +17,6 @@ use Rattle.sheet_text.specs.Text.{spaced, line_text}
 use Rattle.slices.proofs.Puts.{put_none, put_as, put_then, put_length}
 use Rattle.sheet_text.proofs.Puts.{spaced_few, line_few}
 use Rattle.plan_rows.specs.Rows.{buffer_copy_numbers, buffer_texture_copy_numbers, texture_copy_numbers, texture_range_numbers, buffer_range_numbers, refusal_numbers}
-use Rattle.plan_kinds.proofs.Numbers.{numbers_or_none}
 use Rattle.plan_kinds.specs.declared.Plan.{Plan}
 use Rattle.plan_kinds.specs.declared.Plan.TheVariants.{Buffers, BufferTexture, Textures}
 use Rattle.copy_kinds.specs.declared.InitRange.{InitRange}
@@ -25,11 +24,8 @@ use Rattle.copy_kinds.specs.declared.InitRange.TheVariants.{Texture, Buffer}
 use Rattle.copy_kinds.specs.declared.Ranges.{Ranges}
 use Rattle.plan_asked.specs.declared.Asked.{Asked}
 use Rattle.copy_kinds.specs.Ranges.{range_at, count_of}
-use Rattle.plan_kinds.specs.Regions.{left_of, checked_bytes_of, buffer_numbers, buffer_texture_numbers, texture_numbers, region_numbers, behind_of, next_of}
+use Rattle.plan_kinds.specs.Regions.{left_of, checked_bytes_of, next_numbers, region_numbers, behind_of, next_of}
 use Rattle.sheet_lines.specs.Lines.{sheet_word, texture_word, buffer_word, ok_word, refused_word, region_word, sheet_text, range_text, ranges_text, copy_text, plan_text, refusal_text, answer_text, region_text}
-use Rattle.plan_buffer_texture.specs.declared.BufferTextureCopy.{BufferTextureCopy}
-use Rattle.plan_buffers.specs.declared.BufferCopy.{BufferCopy}
-use Rattle.plan_textures.specs.declared.TextureCopy.{TextureCopy}
 
 -- ---- counts of numbers
 
@@ -45,30 +41,19 @@ pub refusal_count : (why : TransferError) → length (refusal_numbers why) ≡ 6
 unfolding refusal_numbers
 refusal_count why = refl
 
-buffer_few : (a : Option BufferCopy) → length (buffer_numbers a) ≤ 15
-unfolding buffer_numbers buffer_copy_numbers
-buffer_few (Some r) = omega arith
-buffer_few None = omega arith
-
-buffer_texture_few : (a : Option BufferTextureCopy) → length (buffer_texture_numbers a) ≤ 15
-unfolding buffer_texture_numbers buffer_texture_copy_numbers
-buffer_texture_few (Some r) = omega arith
-buffer_texture_few None = omega arith
-
-texture_few : (a : Option TextureCopy) → length (texture_numbers a) ≤ 15
-unfolding texture_numbers texture_copy_numbers
-texture_few (Some r) = omega arith
-texture_few None = omega arith
+few : {T : Type 0} (f : T → List ℕ) (o : Option T) → ((x : T) → length (f x) ≤ 15) → length (unwrap_or (option_map f o) []) ≤ 15
+few f (Some x) h = h x
+few f None h = omega arith
 
 pub numbers_few : (p : Plan) → length (region_numbers p) ≤ 15
-unfolding region_numbers
-numbers_few (Buffers p) = buffer_few _
-numbers_few (BufferTexture p) = buffer_texture_few _
-numbers_few (Textures p) = texture_few _
+unfolding region_numbers next_numbers buffer_copy_numbers buffer_texture_copy_numbers texture_copy_numbers
+numbers_few (Buffers p) = few buffer_copy_numbers _ (λ r. omega arith)
+numbers_few (BufferTexture p) = few buffer_texture_copy_numbers _ (λ r. omega arith)
+numbers_few (Textures p) = few texture_copy_numbers _ (λ r. omega arith)
 
 pub asked_numbers : (p : Plan) (a : Asked (List ℕ) Plan) → a ≡ next_of p → unwrap_or a.answer [] ≡ region_numbers p
-unfolding next_of
-asked_numbers p a e = ap (λ (q : Asked (List ℕ) Plan). unwrap_or q.answer []) e ∙ numbers_or_none p
+unfolding next_of region_numbers
+asked_numbers p a e = ap (λ (q : Asked (List ℕ) Plan). unwrap_or q.answer []) e
 
 pub asked_plan : (p : Plan) (a : Asked (List ℕ) Plan) → a ≡ next_of p → a.plan ≡ behind_of p
 unfolding next_of
@@ -90,11 +75,6 @@ unfolding copy_text
 copy_few k = rw (length-append (99 ∷ 111 ∷ 112 ∷ 121 ∷ []) (spaced false (k ∷ []))) (omega (arith, spaced_few false (k ∷ [])))
 
 -- ---- lines one after the other
-
-module _ {l m : List ℕ} {at a : ℕ} {t : List ℕ} (p : Put l m at t a) where
-  -- room that is left after a text
-  pub room_behind : (n have need : ℕ) → length t ≤ n → at + have ≤ length l → n + need ≤ have → a + need ≤ length m
-  room_behind n have need few h k = omega (arith, p.next, put_length p)
 
 -- the lines of the slots from the i-th on
 pub texts : List (Option InitRange) → List ℕ

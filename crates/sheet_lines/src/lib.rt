@@ -1,5 +1,5 @@
 #![tactic(auto)]
-// The lines of a copy's answer, put into a slice at a place.
+// The pieces of a listing: each is put at the start of an array that has room for any, and the answer is how many bytes it has.
 ghost use Rattle.std.specs.Prelude.{◌+◌, ◌*◌, ◌≤◌, length, [], true, unwrap_or, ◌≡◌};
 ghost use Rattle.plan_kinds.specs.Regions.{behind_of};
 ghost use Rattle.slices.specs.Put.{Put};
@@ -11,10 +11,15 @@ use plan_kinds::Plan;
 use plan_rows::Row;
 use refusals::TransferError;
 
-// The place after a region's line, and the plan after the region.
+// The lines of any answer fit, and any other line.
+pub const PIECE_BYTES: usize = 1024;
+
+pub type Piece = [u8; PIECE_BYTES];
+
+// How many bytes a region's line has, and the plan after the region.
 #[derive(Clone, Copy)]
 pub struct PutRegion {
-    pub next: usize,
+    pub count: usize,
     pub plan: Plan,
 }
 
@@ -28,11 +33,10 @@ fn put_row(out: &mut [u8], at: usize, word: &[u8], dash: bool, row: Row) -> usiz
 
 // `sheet n`.
 #[tactic(auto, unfolding(crate::specs::Lines::sheet_text))]
-pub fn put_sheet(out: &mut [u8], at: usize, n: u64) -> usize
-    requires { at + piece_bytes ≤ length out.old }
-    ensures { Put out.old out.new at (sheet_text n) result }
+pub fn put_sheet(out: &mut Piece, n: u64) -> usize
+    ensures { Put out.old out.new 0 (sheet_text n) result }
 {
-    sheet_text::put_line(out, at, b"sheet", false, &[n])
+    sheet_text::put_line(out, 0, b"sheet", false, &[n])
 }
 
 #[tactic(auto, using(crate::proofs::LineLaws::texture_range_count, crate::proofs::LineLaws::buffer_range_count, slices::proofs::Puts::put_none), unfolding(crate::specs::Lines::range_text))]
@@ -63,75 +67,64 @@ fn put_ranges(out: &mut [u8], at: usize, ranges: Ranges) -> usize
 }
 
 #[tactic(auto, using(slices::proofs::Puts::put_then), unfolding(crate::specs::Lines::copy_text))]
-fn put_copy(out: &mut [u8], at: usize, k: u64) -> usize
-    requires { at + 32 ≤ length out.old }
-    ensures { Put out.old out.new at (copy_text k) result }
+fn put_copy(out: &mut Piece, k: u64) -> usize
+    ensures { Put out.old out.new 0 (copy_text k) result }
 {
-    let a = sheet_text::put_bytes(out, at, b"copy");
+    let a = sheet_text::put_bytes(out, 0, b"copy");
     sheet_text::put_numbers(out, a, false, &[k])
 }
 
 #[tactic(auto, using(crate::proofs::LineLaws::copy_few, sheet_text::proofs::Puts::line_few, slices::proofs::Puts::put_length))]
-fn put_plan(out: &mut [u8], at: usize, k: u64, plan: Plan, ranges: Ranges) -> usize
-    requires { at + piece_bytes ≤ length out.old }
-    ensures { Put out.old out.new at (plan_text k plan ranges) result }
+fn put_plan(out: &mut Piece, k: u64, plan: Plan, ranges: Ranges) -> usize
+    ensures { Put out.old out.new 0 (plan_text k plan ranges) result }
 {
     let ns = [
         plan.left() as u64,
         ranges.count() as u64,
         plan.bytes_checked(),
     ];
-    let a = put_copy(out, at, k);
+    let a = put_copy(out, k);
     let b = sheet_text::put_line(out, a, b" ok", false, &ns);
     put_ranges(out, b, ranges)
 }
 
-fn put_refusal(out: &mut [u8], at: usize, k: u64, why: TransferError) -> usize
-    requires { at + piece_bytes ≤ length out.old }
-    ensures { Put out.old out.new at (refusal_text k why) result }
+fn put_refusal(out: &mut Piece, k: u64, why: TransferError) -> usize
+    ensures { Put out.old out.new 0 (refusal_text k why) result }
 {
-    let a = put_copy(out, at, k);
+    let a = put_copy(out, k);
     put_row(out, a, b" refused", false, Row::from(why))
 }
 
 // A copy's answer, with its ranges.
 #[tactic(auto, unfolding(crate::specs::Lines::answer_text))]
-pub fn put_answer(
-    out: &mut [u8],
-    at: usize,
-    k: u64,
-    answer: Result<(Plan, Ranges), TransferError>,
-) -> usize
-    requires { at + piece_bytes ≤ length out.old }
-    ensures { Put out.old out.new at (answer_text k answer) result }
+pub fn put_answer(out: &mut Piece, k: u64, answer: Result<(Plan, Ranges), TransferError>) -> usize
+    ensures { Put out.old out.new 0 (answer_text k answer) result }
 {
     match answer {
-        Ok((plan, ranges)) => put_plan(out, at, k, plan, ranges),
-        Err(why) => put_refusal(out, at, k, why),
+        Ok((plan, ranges)) => put_plan(out, k, plan, ranges),
+        Err(why) => put_refusal(out, k, why),
     }
 }
 
 // The line of an answer's region; where there is none, of no numbers.
-fn put_asked(out: &mut [u8], at: usize, answer: Option<Row>) -> usize
-    requires { at + (1 + (21 * length (unwrap_or answer []) + 1)) ≤ length out.old }
-    ensures { Put out.old out.new at (line_text region_word true (unwrap_or answer [])) result }
+fn put_asked(out: &mut Piece, answer: Option<Row>) -> usize
+    requires { 1 + (21 * length (unwrap_or answer []) + 1) ≤ piece_bytes }
+    ensures { Put out.old out.new 0 (line_text region_word true (unwrap_or answer [])) result }
 {
     match answer {
-        Some(row) => put_row(out, at, b"r", true, row),
-        None => sheet_text::put_line(out, at, b"r", true, &[]),
+        Some(row) => put_row(out, 0, b"r", true, row),
+        None => sheet_text::put_line(out, 0, b"r", true, &[]),
     }
 }
 
 // The line of the plan's next region, and the plan after it.
-pub fn put_region(out: &mut [u8], at: usize, plan: Plan) -> PutRegion
-    requires { at + piece_bytes ≤ length out.old }
-    ensures put { Put out.old out.new at (region_text plan) result.next }
+pub fn put_region(out: &mut Piece, plan: Plan) -> PutRegion
+    ensures put { Put out.old out.new 0 (region_text plan) result.count }
     ensures plan_value { result.plan ≡ behind_of plan }
 {
     let asked = plan.next();
-    let next = put_asked(out, at, asked.answer);
     PutRegion {
-        next,
+        count: put_asked(out, asked.answer),
         plan: asked.plan,
     }
 }

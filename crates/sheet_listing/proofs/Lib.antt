@@ -1,3 +1,4 @@
 pub mod Pieces
 pub mod Left
 pub mod Whole
+pub mod Parts

@@ -10,12 +10,12 @@ use mathlib.Core.List.{List, []}
 use Prim.Native.Nat.{ℕ, ◌-◌, ◌≤◌, ◌<◌}
 use borrow.Author.Tests.{lt-ltb, le-ltb, ltb-true, ltb-false}
 use lib.Dec.{ltb}
+use Rattle.records.specs.declared.Device.{Device}
 use Rattle.sheet_sections.specs.Rows.{copies, section_line}
 use Rattle.plan_kinds.specs.declared.Plan.{Plan}
 use Rattle.plan_kinds.specs.Regions.{left_of, behind_of}
 use Rattle.sheet_lines.specs.Lines.{answer_text, region_text}
 use Rattle.sheet_listing.specs.declared.CopiesLeft.{CopiesLeft}
-use Rattle.sheet_listing.specs.declared.Lister.TheVariants.{Copies}
 use Rattle.sheet_listing.specs.Listing.{plan_answered, plan_left, state_with, answer_of, copies_piece, piece_of, copies_next, next_of}
 
 -- ---- a plan of which regions are left
@@ -40,30 +40,30 @@ plan_left_none (Some q) e = go (ltb 0 (left_of q)) refl e
 
 -- ---- one step among copies
 
-module _ (s ts bs : List ℕ) (c : CopiesLeft) where
+module _ (s ts bs : List ℕ) (device : Device) (c : CopiesLeft) where
   module _ {p : Plan} (is : Some p ≡ plan_left c.plan) where
-    pub piece_region : region_text p ≡ piece_of s ts bs (Copies c)
+    pub piece_region : region_text p ≡ piece_of s ts bs device c
     unfolding piece_of copies_piece
     piece_region = rw (← is)
 
-    pub next_region : state_with c c.left c.at (Some (behind_of p)) ≡ next_of s ts bs (Copies c)
+    pub next_region : state_with c c.left c.at (Some (behind_of p)) ≡ next_of s ts bs device c
     unfolding next_of copies_next
     next_region = rw (← is)
 
   module _ (out : None ≡ plan_left c.plan) (h : 0 < c.left) where
-    pub piece_copy : answer_text (c.total - c.left) (answer_of s ts bs c) ≡ piece_of s ts bs (Copies c)
+    pub piece_copy : answer_text (c.total - c.left) (answer_of s ts bs device c) ≡ piece_of s ts bs device c
     unfolding piece_of copies_piece
     piece_copy = rw (← out, lt-ltb _ _ h)
 
-    pub next_copy : state_with c (c.left - 1) (section_line s copies c.at).next (plan_answered (answer_of s ts bs c)) ≡ next_of s ts bs (Copies c)
+    pub next_copy : state_with c (c.left - 1) (section_line s copies c.at).next (plan_answered (answer_of s ts bs device c)) ≡ next_of s ts bs device c
     unfolding next_of copies_next
     next_copy = rw (← out, lt-ltb _ _ h)
 
   module _ (out : None ≡ plan_left c.plan) (h : c.left ≤ 0) where
-    pub piece_none : [] ≡ piece_of s ts bs (Copies c)
+    pub piece_none : [] ≡ piece_of s ts bs device c
     unfolding piece_of copies_piece
     piece_none = rw (← out, le-ltb _ _ h)
 
-    pub next_none : Copies c ≡ next_of s ts bs (Copies c)
+    pub next_none : c ≡ next_of s ts bs device c
     unfolding next_of copies_next
     next_none = rw (← out, le-ltb _ _ h)

@@ -12,9 +12,10 @@ use Rattle.sheet_sections.specs.Sheet.{sheet_of}
 use Rattle.sheet_copies.specs.declared.places.Places.{Places}
 use Rattle.sheet_copies.specs.Answers.{starts_of, device_at}
 use Rattle.sheet_copies.proofs.Placed.{textures_placed, buffers_placed}
-use Rattle.sheet_listing.specs.declared.Lister.{Lister}
-use Rattle.sheet_listing.specs.declared.Lister.TheVariants.{Copies}
+use Rattle.sheet_listing.specs.declared.CopiesLeft.{CopiesLeft}
+use Rattle.sheet_listing.specs.declared.GoodSheet.{GoodSheet}
 use Rattle.sheet_listing.specs.declared.Listing.{Listing}
+use Rattle.sheet_listing.specs.declared.Listing.TheVariants.{Good}
 use Rattle.sheet_listing.specs.Listing.{regions_left, listing_from, listing_of, text_left, rest_of, Fills, Ends, Gives, ended, filled, Listed}
 
 -- ---- the start
@@ -25,11 +26,9 @@ pub started_good :
     → starts_of bs ≡ places_of s buffers (min p.buffers.count 64) p.buffers.first
     → device ≡ device_at s p
     → rest_of s
-    (record {
-      textures = ts;
-      buffers = bs;
-      lister = Copies (record { total = p.copies.count; left = p.copies.count; at = p.copies.first; device = device; plan = None });
-    })
+    (Good
+    (record { textures = ts; buffers = bs; device = device })
+    (record { total = p.copies.count; left = p.copies.count; at = p.copies.first; plan = None }))
     ≡ listing_of s
 unfolding rest_of text_left listing_of listing_from regions_left
 started_good s p ts bs device good at-textures at-buffers its-device =
@@ -37,12 +36,11 @@ started_good s p ts bs device good at-textures at-buffers its-device =
 
 -- ---- a part
 
-module _ (s : List ℕ) (st : Listing) (ts bs : List ℕ) (of-textures : ts ≡ starts_of st.textures) (of-buffers : bs ≡ starts_of st.buffers) where
+module _ (s : List ℕ) (g : GoodSheet) (c : CopiesLeft) (ts bs : List ℕ) (of-textures : ts ≡ starts_of g.textures) (of-buffers : bs ≡ starts_of g.buffers) where
   pub part_filled :
-      (q : Lister) (l k : List ℕ) (count : ℕ)
-      → Fills l k count (text_left s ts bs st.lister) (text_left s ts bs q) × ((count ≤ length k) × Ends (length l) count (text_left s ts bs st.lister))
-      → Fills l k count (rest_of s st) (rest_of s (record { textures = st.textures; buffers = st.buffers; lister = q }))
-      × ((count ≤ length k) × Ends (length l) count (rest_of s st))
+      (q : CopiesLeft) (l k : List ℕ) (count : ℕ)
+      → Fills l k count (text_left s ts bs g.device c) (text_left s ts bs g.device q) × ((count ≤ length k) × Ends (length l) count (text_left s ts bs g.device c))
+      → Fills l k count (rest_of s (Good g c)) (rest_of s (Good g q)) × ((count ≤ length k) × Ends (length l) count (rest_of s (Good g c)))
   unfolding rest_of
   part_filled q l k count h = rw (← of-textures, ← of-buffers) h
 

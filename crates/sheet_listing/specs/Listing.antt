@@ -1,5 +1,5 @@
 -- The whole listing of a sheet, from its bytes; and the state between one piece of it and the next.
-use Rattle.std.specs.Prelude.{◌≡◌, Result, Ok, Err, List, [], ◌++◌, ℕ, zero, suc, ◌-◌, ◌≤◌, ◌<◌, ltb, Option, Some, None}
+use Rattle.std.specs.Prelude.{◌≡◌, Result, Ok, Err, List, [], ◌++◌, ℕ, zero, suc, ◌-◌, ◌≤◌, ◌<◌, length, ltb, Option, Some, None}
 use Rattle.std.specs.Bool.{then_some}
 use Rattle.conditions.specs.Conditions.{pick}
 use Rattle.records.specs.declared.Device.{Device}
@@ -12,9 +12,8 @@ use Rattle.sheet_sections.specs.Sheet.{sheet_of, line_number}
 use Rattle.sheet_copies.specs.Answers.{starts_of, texture_places, buffer_places, device_at, answer_at}
 use Rattle.slices.specs.Put.{Put}
 use Rattle.sheet_listing.specs.declared.CopiesLeft.{CopiesLeft}
-use Rattle.sheet_listing.specs.declared.Lister.{Lister}
-use Rattle.sheet_listing.specs.declared.Lister.TheVariants.{Ill, Copies, Ended}
 use Rattle.sheet_listing.specs.declared.Listing.{Listing}
+use Rattle.sheet_listing.specs.declared.Listing.TheVariants.{Ill, Good, Ended}
 use Rattle.sheet_lines.specs.Lines.{piece_bytes, sheet_text, answer_text, region_text}
 use Rattle.copy_kinds.specs.declared.Ranges.{Ranges}
 use Rattle.refusals.specs.declared.TransferError.{TransferError}
@@ -62,55 +61,51 @@ unfoldable pub plan_left : Option Plan → Option Plan
 plan_left (Some p) = then_some (ltb 0 (left_of p)) p
 plan_left None = None
 
-unfoldable pub state_with : CopiesLeft → ℕ → ℕ → Option Plan → Lister
-state_with c left at plan = Copies (record { total = c.total; left = left; at = at; device = c.device; plan = plan })
+unfoldable pub state_with : CopiesLeft → ℕ → ℕ → Option Plan → CopiesLeft
+state_with c left at plan = record { total = c.total; left = left; at = at; plan = plan }
 
-module _ (s ts bs : List ℕ) where
+module _ (s ts bs : List ℕ) (device : Device) where
   -- the answer to the next copy
   unfoldable pub answer_of : CopiesLeft → Result (Plan × Ranges) TransferError
-  answer_of c = answer_at s ts bs c.device c.at
+  answer_of c = answer_at s ts bs device c.at
 
-  -- what is put next among copies, by the plan of which regions are left: a region's line; a copy's answer; nothing
+  -- what is put next, by the plan of which regions are left: a region's line; a copy's answer; nothing
   unfoldable pub copies_piece : CopiesLeft → Option Plan → List ℕ
   copies_piece c (Some p) = region_text p
   copies_piece c None = pick (ltb 0 c.left) (answer_text (c.total - c.left) (answer_of c)) []
 
-  -- what is put next: an ill sheet's line; a piece of the copies; nothing
-  unfoldable pub piece_of : Lister → List ℕ
-  piece_of (Ill line) = sheet_text line
-  piece_of (Copies c) = copies_piece c (plan_left c.plan)
-  piece_of Ended = []
-
-  unfoldable pub copies_next : CopiesLeft → Option Plan → Lister
-  copies_next c (Some p) = state_with c c.left c.at (Some (behind_of p))
-  copies_next c None = pick (ltb 0 c.left) (state_with c (c.left - 1) (section_line s copies c.at).next (plan_answered (answer_of c))) (Copies c)
+  unfoldable pub piece_of : CopiesLeft → List ℕ
+  piece_of c = copies_piece c (plan_left c.plan)
 
   -- the state after it
-  unfoldable pub next_of : Lister → Lister
-  next_of (Ill line) = Ended
-  next_of (Copies c) = copies_next c (plan_left c.plan)
-  next_of Ended = Ended
+  unfoldable pub copies_next : CopiesLeft → Option Plan → CopiesLeft
+  copies_next c (Some p) = state_with c c.left c.at (Some (behind_of p))
+  copies_next c None = pick (ltb 0 c.left) (state_with c (c.left - 1) (section_line s copies c.at).next (plan_answered (answer_of c))) c
+
+  unfoldable pub next_of : CopiesLeft → CopiesLeft
+  next_of c = copies_next c (plan_left c.plan)
 
   -- all that is left
-  unfoldable pub text_left : Lister → List ℕ
-  text_left (Ill line) = sheet_text line
-  text_left (Copies c) = regions_left c.plan ++ copies_text s ts bs c.device c.total c.left c.at
-  text_left Ended = []
+  unfoldable pub text_left : CopiesLeft → List ℕ
+  text_left c = regions_left c.plan ++ copies_text s ts bs device c.total c.left c.at
 
-  module _ (st : Lister) (l m : List ℕ) where
-    -- the next piece is put at a place; it is not empty
-    pub record Steps (at next : ℕ) (after : Lister) : Type 0 where
-      pub put : Put l m at (piece_of st) next
-      pub some : at < next
-      pub state : after ≡ next_of st
+  module _ (c : CopiesLeft) (l m : List ℕ) where
+    -- the next piece is put at the start; it is not empty
+    pub record Steps (count : ℕ) (after : CopiesLeft) : Type 0 where
+      pub put : Put l m 0 (piece_of c) count
+      pub some : 0 < count
+      pub fits : count ≤ length l
+      pub state : after ≡ next_of c
 
-    -- nothing is left, and nothing is put
+    -- nothing is put: nothing is left, or there is no room for a piece
     abbrev pub Stops : Type 0
-    Stops = (text_left st ≡ []) × (m ≡ l)
+    Stops = (piece_bytes ≤ length l → text_left c ≡ []) × (m ≡ l)
 
--- all that is left of a listing, which holds the places of its texture and buffer lines
+-- all that is left of a listing
 unfoldable pub rest_of : List ℕ → Listing → List ℕ
-rest_of s st = text_left s (starts_of st.textures) (starts_of st.buffers) st.lister
+rest_of s (Ill line) = sheet_text line
+rest_of s (Good g c) = text_left s (starts_of g.textures) (starts_of g.buffers) g.device c
+rest_of s Ended = []
 
 -- some of what was left is put at a slice's start, and nothing after it changes
 pub record Fills (l m : List ℕ) (count : ℕ) (before after : List ℕ) : Type 0 where

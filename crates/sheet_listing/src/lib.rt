@@ -1,8 +1,7 @@
 #![tactic(auto)]
 // The listing of a job sheet, made piece by piece into what the caller lends.
-ghost use Rattle.std.specs.Prelude.{◌≡◌, Ok, List, ℕ, ◌+◌, ◌≤◌, length, MatchOption};
+ghost use Rattle.std.specs.Prelude.{◌≡◌, Ok, List, ℕ, ◌≤◌, length, MatchOption};
 ghost use Rattle.sheet_sections.specs.Sheet.{sheet_of};
-ghost use Rattle.sheet_lines.specs.Lines.{piece_bytes, sheet_text};
 ghost use Rattle.sheet_listing.specs.Listing.{plan_answered, plan_left, Steps, Stops, text_left, rest_of, listing_of, Fills, Ends, Listed};
 
 use copy_kinds::Ranges;
@@ -10,18 +9,8 @@ use plan_kinds::Plan;
 use records::Device;
 use refusals::TransferError;
 use sheet_copies::{Places, Sheet};
+use sheet_lines::Piece;
 use sheet_sections::{Parts, Section};
-
-// Room for any piece.
-const PIECE_BYTES: usize = 1024;
-
-// Where the listing is: at the one line of an ill sheet, among the copies, or past its last piece.
-#[derive(Clone, Copy)]
-pub enum Lister {
-    Ill(usize),
-    Copies(CopiesLeft),
-    Ended,
-}
 
 // How many copies there are, how many are left and where the next one's line begins, with what is left of the last one's regions.
 #[derive(Clone, Copy)]
@@ -29,30 +18,30 @@ pub struct CopiesLeft {
     pub total: usize,
     pub left: usize,
     pub at: usize,
-    pub device: Device,
     pub plan: Option<Plan>,
 }
 
-// The place after a piece, and the state after it.
+// How many bytes were put, and what is left of the copies after them.
 #[derive(Clone, Copy)]
 pub struct Stepped {
-    pub next: usize,
-    pub lister: Lister,
-}
-
-// How many bytes of pieces were put, and where the listing is after them.
-#[derive(Clone, Copy)]
-pub struct PiecesPut {
     pub count: usize,
-    pub lister: Lister,
+    pub copies: CopiesLeft,
 }
 
-// All that a listing goes on from: where the sheet's texture and buffer lines begin, and where the listing is.
+// What every copy of a good sheet is read with: where its texture and buffer lines begin, and its device.
 #[derive(Clone, Copy)]
-pub struct Listing {
+pub struct GoodSheet {
     pub textures: Places,
     pub buffers: Places,
-    pub lister: Lister,
+    pub device: Device,
+}
+
+// Where a listing is: at the one line of an ill sheet, among the copies of a good one, or past an ill sheet's line.
+#[derive(Clone, Copy)]
+pub enum Listing {
+    Ill(usize),
+    Good(GoodSheet, CopiesLeft),
+    Ended,
 }
 
 // How many bytes were put, and the state after them.
@@ -75,29 +64,21 @@ fn start_good(s: &[u8], p: Parts) -> Listing
     requires { Ok p ≡ sheet_of s.now }
     ensures { rest_of s.now result ≡ listing_of s.now }
 {
-    let copies = p.copies;
-    let lister = Lister::Copies(CopiesLeft {
-        total: copies.count,
-        left: copies.count,
-        at: copies.first,
-        device: sheet_copies::device_at(s, p),
-        plan: None,
-    });
-    Listing {
+    let good = GoodSheet {
         textures: Places::find(s, Section::Textures, p.textures),
         buffers: Places::find(s, Section::Buffers, p.buffers),
-        lister,
-    }
-}
-
-fn start_ill(line: usize) -> Listing
-    ensures { (s : List ℕ) → rest_of s result ≡ sheet_text line }
-{
-    Listing {
-        textures: Places::none(),
-        buffers: Places::none(),
-        lister: Lister::Ill(line),
-    }
+        device: sheet_copies::device_at(s, p),
+    };
+    let copies = p.copies;
+    Listing::Good(
+        good,
+        CopiesLeft {
+            total: copies.count,
+            left: copies.count,
+            at: copies.first,
+            plan: None,
+        },
+    )
 }
 
 // The state before the first piece: the sheet is read, and the whole listing is left.
@@ -106,7 +87,7 @@ pub fn start(s: &[u8]) -> Listing
 {
     match sheet_sections::read_sheet(s) {
         Ok(p) => start_good(s, p),
-        Err(e) => start_ill(e.line()),
+        Err(e) => Listing::Ill(e.line()),
     }
 }
 
@@ -120,100 +101,93 @@ impl CopiesLeft {
     }
 
     // The next region, or else the next copy's answer.
-    fn step(
-        self,
-        s: &[u8],
-        textures: &[usize],
-        buffers: &[usize],
-        out: &mut [u8],
-        at: usize,
-    ) -> Option<Stepped>
-        requires { at + piece_bytes ≤ length out.old }
-        ensures { MatchOption result (Stops s.now textures.now buffers.now (Lister.Copies self) out.old out.new) (λ stepped. Steps s.now textures.now buffers.now (Lister.Copies self) out.old out.new at stepped.next stepped.lister) }
+    fn step(self, sheet: Sheet, out: &mut Piece) -> Option<Stepped>
+        ensures { MatchOption result (Stops sheet.entry.text.now sheet.entry.textures.now sheet.entry.buffers.now sheet.entry.device self out.old out.new) (λ stepped. Steps sheet.entry.text.now sheet.entry.textures.now sheet.entry.buffers.now sheet.entry.device self out.old out.new stepped.count stepped.copies) }
     {
         if let Some(plan) = self.unlisted() {
-            let put = sheet_lines::put_region(out, at, plan);
+            let put = sheet_lines::put_region(out, plan);
             return Some(Stepped {
-                next: put.next,
-                lister: Lister::Copies(CopiesLeft {
+                count: put.count,
+                copies: CopiesLeft {
                     plan: Some(put.plan),
                     ..self
-                }),
+                },
             });
         }
         if self.left == 0 {
             return None;
         }
-        let line = sheet_sections::read_row(s, Section::Copies, self.at);
-        let sheet = Sheet {
-            text: s,
-            textures,
-            buffers,
-            device: self.device,
-        };
+        let line = sheet_sections::read_row(sheet.text, Section::Copies, self.at);
         let answer = sheet.plan_line(line);
         let number = self.total.saturating_sub(self.left) as u64;
-        let next = sheet_lines::put_answer(out, at, number, answer);
         Some(Stepped {
-            next,
-            lister: Lister::Copies(CopiesLeft {
+            count: sheet_lines::put_answer(out, number, answer),
+            copies: CopiesLeft {
                 left: self.left - 1,
                 at: line.next,
                 plan: plan_of(answer),
                 ..self
-            }),
+            },
         })
     }
 }
 
-impl Lister {
-    // The next piece, put at a place; `None` where nothing is left. The sheet's bytes, and where its texture and buffer lines begin.
-    fn step(
-        self,
-        s: &[u8],
-        textures: &[usize],
-        buffers: &[usize],
-        out: &mut [u8],
-        at: usize,
-    ) -> Option<Stepped>
-        requires { at + piece_bytes ≤ length out.old }
-        ensures { MatchOption result (Stops s.now textures.now buffers.now self out.old out.new) (λ stepped. Steps s.now textures.now buffers.now self out.old out.new at stepped.next stepped.lister) }
-    {
-        match self {
-            Lister::Ill(line) => Some(Stepped {
-                next: sheet_lines::put_sheet(out, at, line as u64),
-                lister: Lister::Ended,
-            }),
-            Lister::Copies(copies) => copies.step(s, textures, buffers, out, at),
-            Lister::Ended => None,
-        }
-    }
+// The next piece at a slice's start; `None` where nothing is left, or the slice has no room for a piece.
+fn put_piece(copies: CopiesLeft, sheet: Sheet, out: &mut [u8]) -> Option<Stepped>
+    ensures { MatchOption result (Stops sheet.entry.text.now sheet.entry.textures.now sheet.entry.buffers.now sheet.entry.device copies out.old out.new) (λ stepped. Steps sheet.entry.text.now sheet.entry.textures.now sheet.entry.buffers.now sheet.entry.device copies out.old out.new stepped.count stepped.copies) }
+{
+    copies.step(sheet, out.first_chunk_mut()?)
 }
 
 // Pieces one after the other from the slice's start, as many as there is surely room for.
-fn put_pieces(
-    first: Lister,
-    s: &[u8],
-    textures: &[usize],
-    buffers: &[usize],
-    out: &mut [u8],
-) -> PiecesPut
-    ensures fills { Fills out.old out.new result.count (text_left s.now textures.now buffers.now first) (text_left s.now textures.now buffers.now result.lister) }
+fn put_pieces(first: CopiesLeft, sheet: Sheet, out: &mut [u8]) -> Stepped
+    ensures fills { Fills out.old out.new result.count (text_left sheet.entry.text.now sheet.entry.textures.now sheet.entry.buffers.now sheet.entry.device first) (text_left sheet.entry.text.now sheet.entry.textures.now sheet.entry.buffers.now sheet.entry.device result.copies) }
     ensures count_in_bounds { result.count ≤ length out.new }
-    ensures ends { Ends (length out.old) result.count (text_left s.now textures.now buffers.now first) }
+    ensures ends { Ends (length out.old) result.count (text_left sheet.entry.text.now sheet.entry.textures.now sheet.entry.buffers.now sheet.entry.device first) }
 {
-    let mut st = first;
+    let mut copies = first;
     let mut at: usize = 0;
-    while out.len() - at >= PIECE_BYTES {
-        let Some(stepped) = st.step(s, textures, buffers, out, at) else {
-            break;
-        };
-        at = stepped.next;
-        st = stepped.lister;
+    while let Some(stepped) = put_piece(copies, sheet, &mut out[at..]) {
+        at += stepped.count;
+        copies = stepped.copies;
     }
-    PiecesPut {
-        count: at,
-        lister: st,
+    Stepped { count: at, copies }
+}
+
+// The next part of a good sheet's listing.
+fn fill_good(good: GoodSheet, copies: CopiesLeft, s: &[u8], out: &mut [u8]) -> Filled
+    ensures fills { Fills out.old out.new result.count (rest_of s.now (Listing.Good good copies)) (rest_of s.now result.listing) }
+    ensures count_in_bounds { result.count ≤ length out.new }
+    ensures ends { Ends (length out.old) result.count (rest_of s.now (Listing.Good good copies)) }
+{
+    let sheet = Sheet {
+        text: s,
+        textures: good.textures.as_slice(),
+        buffers: good.buffers.as_slice(),
+        device: good.device,
+    };
+    let put = put_pieces(copies, sheet, out);
+    Filled {
+        count: put.count,
+        listing: Listing::Good(good, put.copies),
+    }
+}
+
+// The one line of an ill sheet, where there is room for a piece.
+fn fill_ill(line: usize, out: &mut [u8]) -> Filled
+    ensures fills { (s : List ℕ) → Fills out.old out.new result.count (rest_of s (Listing.Ill line)) (rest_of s result.listing) }
+    ensures count_in_bounds { result.count ≤ length out.new }
+    ensures ends { (s : List ℕ) → Ends (length out.old) result.count (rest_of s (Listing.Ill line)) }
+{
+    let Some(piece) = out.first_chunk_mut() else {
+        return Filled {
+            count: 0,
+            listing: Listing::Ill(line),
+        };
+    };
+    Filled {
+        count: sheet_lines::put_sheet(piece, line as u64),
+        listing: Listing::Ended,
     }
 }
 
@@ -224,14 +198,12 @@ pub fn fill(st: Listing, s: &[u8], out: &mut [u8]) -> Filled
     ensures count_in_bounds { result.count ≤ length out.new }
     ensures ends { Ends (length out.old) result.count (rest_of s.now st) }
 {
-    let textures = st.textures.as_slice();
-    let buffers = st.buffers.as_slice();
-    let put = put_pieces(st.lister, s, textures, buffers, out);
-    Filled {
-        count: put.count,
-        listing: Listing {
-            lister: put.lister,
-            ..st
+    match st {
+        Listing::Ill(line) => fill_ill(line, out),
+        Listing::Good(good, copies) => fill_good(good, copies, s, out),
+        Listing::Ended => Filled {
+            count: 0,
+            listing: st,
         },
     }
 }

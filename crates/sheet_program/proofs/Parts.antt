@@ -1,6 +1,6 @@
 -- A listing that is written part by part.
 -- Assumes nothing.
-use mathlib.Core.Path.{◌≡◌, refl, sym, ap, subst, ◌∙◌}
+use mathlib.Core.Path.{◌≡◌, sym, ap, subst, ◌∙◌}
 use mathlib.Core.Bool.{Bool, true, false, not, false≢true}
 use mathlib.Core.List.{List, [], ◌++◌, append_assoc}
 use Prim.Native.Nat.{ℕ, ◌+◌, ◌≤◌, ◌<◌}
@@ -74,35 +74,21 @@ module _ {s : List ℕ} {st next : Listing} {n : ℕ} where
   pub lists_end : {whole : Bool} → PartSent s st next n whole → ListingOn s st → n ≡ 0 → Lists s true
   lists_end part i e = i.onto _ true (all (part.none e))
 
--- ---- a turn of the loop, over a buffer that keeps its length
+-- ---- a turn of the loop, over a buffer that has room for a piece
 
-pub record Turn (s out₀ out : List ℕ) (st : Listing) : Type 0 where
-  pub listing : ListingOn s st
-  pub same : length out ≡ length out₀
-  pub room : piece_bytes ≤ length out
-
-pub turn_starts : {s out : List ℕ} {st : Listing} → rest_of s st ≡ listing_of s → piece_bytes ≤ length out → Turn s out out st
-turn_starts {s} {out} {st} e room = record { listing = lists_start s st e; same = refl; room = room }
-
-module _ {s out₀ out m : List ℕ} {st : Listing} (next : Listing) {n : ℕ} (t : Turn s out₀ out st) (filled : FilledWith s st next out m n) where
-  pub turn_same : length m ≡ length out₀
-  turn_same = put_length filled.0.put ∙ t.same
-
-  part : {whole : Bool} → Sends (take n m) whole → PartSent s st next n whole
-  part sent = part_sent t.room filled sent
-
+module _ {s l m : List ℕ} {st : Listing} (next : Listing) {n : ℕ} (i : ListingOn s st) (filled : FilledWith s st next l m n) (room : piece_bytes ≤ length l) where
   pub turn_stops : Sends (take n m) false → Lists s false
-  turn_stops sent = lists_stop (part sent) t.listing
+  turn_stops sent = lists_stop (part_sent room filled sent) i
 
   module _ (sent : Sends (take n m) true) where
     pub turn_ends : n ≡ 0 → Lists s true
-    turn_ends e = lists_end (part sent) t.listing e
+    turn_ends e = lists_end (part_sent room filled sent) i e
 
     pub turn_less : (n ≡ 0 → ⊥) → length (rest_of s next) < length (rest_of s st)
-    turn_less some = part_less (part sent) some
+    turn_less some = part_less (part_sent room filled sent) some
 
-    pub turn_goes_on : Turn s out₀ m next
-    turn_goes_on = record { listing = lists_on (part sent) t.listing; same = turn_same; room = omega (arith, t.room, put_length filled.0.put) }
+    pub turn_goes_on : ListingOn s next
+    turn_goes_on = lists_on (part_sent room filled sent) i
 
 -- ---- what was taken
 

@@ -5,8 +5,7 @@
 //
 // DESCRIPTOR is a digit from 3 on: the status is written there in the end, and the program itself ends with 0. LABEL comes
 // before the error of a read, HEADING before the listing.
-ghost use Rattle.std.specs.Prelude.{◌≡◌, ◌≤◌, true, length, is_ok, OnOk, OnErr};
-ghost use Rattle.sheet_lines.specs.Lines.{piece_bytes};
+ghost use Rattle.std.specs.Prelude.{◌≡◌, true, is_ok, OnOk, OnErr};
 ghost use Rattle.sheet_calls.specs.Calls.{Sends};
 ghost use Rattle.sheet_program.specs.Program.{Lists, number_of, StatusFor, EveryListing};
 
@@ -44,20 +43,14 @@ impl From<Status> for u8 {
     }
 }
 
-// Writes the listing of a sheet, by way of a buffer that has room for a piece. What cannot be written ends it at once, so that what was
-// written is the listing's beginning.
-fn list<W: Write, C: Clock>(
-    output: &mut W,
-    clock: &C,
-    s: &[u8],
-    out: &mut [u8],
-) -> Result<(), Error>
-    requires { piece_bytes ≤ length out.old }
+// Writes the listing of a sheet, part by part. What cannot be written ends it at once, so that what was written is the listing's beginning.
+fn list<W: Write, C: Clock>(output: &mut W, clock: &C, s: &[u8]) -> Result<(), Error>
     ensures { Lists s.now (is_ok result) }
 {
+    let mut out = [0u8; 65536];
     let mut st = sheet_listing::start(s);
     loop {
-        let filled = sheet_listing::fill(st, s, out);
+        let filled = sheet_listing::fill(st, s, &mut out);
         let n = filled.count;
         sheet_calls::send(output, clock, &out[..n])?;
         if n == 0 {
@@ -78,8 +71,7 @@ fn write_listing<W: Write, C: Clock>(
     ensures status { OnErr result (StatusFor s.now heading.now Status.NotWritten) }
 {
     sheet_calls::send(output, clock, heading)?;
-    let mut out = [0u8; 65536];
-    list(output, clock, s, &mut out)
+    list(output, clock, s)
 }
 
 // Writes the heading and the listing, says what could not be written whole, and answers the status.

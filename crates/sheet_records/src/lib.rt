@@ -1,6 +1,6 @@
 #![tactic(auto)]
 // Records and figures from the values of a job sheet's line.
-ghost use Rattle.std.specs.Prelude.{◌≡◌, ◌+◌};
+ghost use Rattle.std.specs.Prelude.{◌≡◌, ◌+◌, ◌%◌, ◌^◌};
 ghost use Rattle.sheet_records.specs.Records.{value_of, word_of, word_or_absent, size_of, extent_of, device_of, texture_of, buffer_of, view_of, layout_of};
 
 use flags::{BufferUsages, TextureUsages};
@@ -17,12 +17,18 @@ pub fn value_of(l: Line, i: usize) -> u64
     l.value(i).unwrap_or(0)
 }
 
-// The fields read here hold 32 bits, so nothing is cut off.
+// The low 32 bits. The fields that are read as words hold no more, so nothing is cut off.
+fn low_word(value: u64) -> u32
+    ensures { result ≡ value % 2 ^ 32 }
+{
+    (value % (1 << 32)) as u32
+}
+
 #[tactic(auto, unfolding(crate::specs::Records::word_of))]
 pub fn word_of(l: Line, i: usize) -> u32
     ensures { result ≡ word_of l i }
 {
-    (value_of(l, i) % 4294967296) as u32
+    low_word(value_of(l, i))
 }
 
 // The same so many fields on; past the last field it is 0.
@@ -36,14 +42,14 @@ fn value_on(l: Line, i: usize, k: usize) -> u64
 fn word_on(l: Line, i: usize, k: usize) -> u32
     ensures { result ≡ word_of l (i + k) }
 {
-    (value_on(l, i, k) % 4294967296) as u32
+    low_word(value_on(l, i, k))
 }
 
 #[tactic(auto, unfolding(crate::specs::Records::word_or_absent))]
 fn word_or_absent(l: Line, i: usize) -> Option<u32>
     ensures { result ≡ word_or_absent l i }
 {
-    l.value(i).map(|value| (value % 4294967296) as u32)
+    l.value(i).map(low_word)
 }
 
 // The size of a copy between buffers, its line's last field.

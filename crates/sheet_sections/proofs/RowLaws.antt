@@ -8,8 +8,9 @@ use native.Mathlib.Omega.{arith}
 use native.Mathlib.Numerals.{add-one}
 use lib.ListN.{length, get_or, set, get_or-append, drop}
 use lib.Seq.{sets, sets-eq, set_out}
-use Rattle.std.specs.Prelude.{Option, Some, None, Result, Ok, Err, IsSome, unwrap_or, ok_or}
+use Rattle.std.specs.Prelude.{◌++◌, Option, Some, None, Result, Ok, Err, IsSome, unwrap_or, ok_or}
 use Rattle.std.proofs.lemmas.Bool.{cases_lt}
+use Rattle.std.proofs.lemmas.List.{set-append_left}
 use Rattle.sheet_fields.specs.declared.Line.{Line}
 use Rattle.sheet_fields.specs.Line.{no_line}
 use Rattle.sheet_sections.specs.declared.Section.{Section}
@@ -60,11 +61,14 @@ module _ (s : List ℕ) (section : Section) where
   unfolding places_of
   none_left count i at h = let z : count - i ≡ 0 = omega arith in rw z
 
+  -- where there is room, among those after which others are kept
   pub places_on :
-      (count i at : ℕ) (ps : List ℕ) (l : Line) → i < count → l ≡ section_line s section at
-      → sets (set ps i at) (i + 1) (places_of s section (count - (i + 1)) l.next) ≡ sets ps i (places_of s section (count - i) at)
+      (count i at : ℕ) (ps rest : List ℕ) (l : Line) → i < count → i < length ps → l ≡ section_line s section at
+      → sets (set ps i at ++ rest) (i + 1) (places_of s section (count - (i + 1)) l.next) ≡ sets (ps ++ rest) i (places_of s section (count - i) at)
   unfolding places_of
-  places_on count i at ps l h e = let p : count - i ≡ suc (count - (i + 1)) = omega arith in rw (p, ← e, add-one i)
+  places_on count i at ps rest l h room e =
+      let p : count - i ≡ suc (count - (i + 1)) = omega arith in
+      rw (p, ← e, add-one i, ← set-append_left ps rest i at room)
 
   -- no line is left, or no room
   pub places_done : (count i at : ℕ) (ps : List ℕ) → min count (length ps) ≤ i → ps ≡ sets ps i (places_of s section (count - i) at)

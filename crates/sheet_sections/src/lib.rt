@@ -24,6 +24,12 @@ pub enum Section {
 // The most bytes of a sheet.
 const SHEET_BYTES: usize = 65536;
 
+// The most textures, and the most buffers, of a sheet.
+pub const MAX_RECORDS: usize = 64;
+
+// The most copies of a sheet.
+const MAX_COPIES: usize = 256;
+
 // How many lines a section has, where the first begins, and the place after the last.
 #[derive(Clone, Copy)]
 pub struct Part {
@@ -163,17 +169,15 @@ pub fn read_row(s: &[u8], section: Section, at: usize) -> Line
     find_row(s, section, at).unwrap_or(sheet_fields::no_line())
 }
 
-// The most textures, and the most buffers, of a sheet.
-pub const MAX_RECORDS: usize = 64;
-
 // Where the lines of a section begin, as many as there is room for. What the slice has after them is kept.
 #[tactic(auto, using(crate::proofs::RowLaws::places_done))]
 pub fn find_places(s: &[u8], section: Section, count: usize, first: usize, places: &mut [usize])
     ensures { places.new ≡ sets places.old 0 (places_of s.now section count first) }
 {
+    let room = count.min(places.len());
     let mut at = first;
-    for i in 0..count.min(places.len()) {
-        places[i] = at;
+    for place in &mut places[..room] {
+        *place = at;
         at = read_row(s, section, at).next;
     }
 }
@@ -190,24 +194,15 @@ fn read_rows(s: &[u8], section: Section, count: usize, first: usize) -> Result<u
     Ok(at)
 }
 
-#[tactic(auto, unfolding(crate::specs::Sheet::least_of))]
-fn least_of(section: Section) -> usize
-    ensures { result ≡ least_of section }
+// How few lines a section may have, and how many.
+#[tactic(auto, unfolding(crate::specs::Sheet::least_of, crate::specs::Sheet::most_of))]
+fn counts_of(section: Section) -> (usize, usize)
+    ensures { result ≡ (least_of section, most_of section) }
 {
     match section {
-        Section::Devices => 1,
-        Section::Textures | Section::Buffers | Section::Copies => 0,
-    }
-}
-
-#[tactic(auto, unfolding(crate::specs::Sheet::most_of))]
-fn most_of(section: Section) -> usize
-    ensures { result ≡ most_of section }
-{
-    match section {
-        Section::Devices => 1,
-        Section::Textures | Section::Buffers => 64,
-        Section::Copies => 256,
+        Section::Devices => (1, 1),
+        Section::Textures | Section::Buffers => (0, MAX_RECORDS),
+        Section::Copies => (0, MAX_COPIES),
     }
 }
 
@@ -222,10 +217,8 @@ fn read_counted(
 ) -> Result<Part, IllAt>
     ensures { result ≡ section_of_count s.now section at count first }
 {
-    if count < least_of(section) {
-        return Err(IllAt(at));
-    }
-    if count > most_of(section) {
+    let (least, most) = counts_of(section);
+    if count < least || count > most {
         return Err(IllAt(at));
     }
     let next = read_rows(s, section, count, first)?;
@@ -281,10 +274,7 @@ pub fn read_sheet(s: &[u8]) -> Result<Parts, SheetError>
     if s.len() > SHEET_BYTES {
         return Err(SheetError::TooLong);
     }
-    match find_parts(s) {
-        Ok(parts) => Ok(parts),
-        Err(ill) => Err(SheetError::IllLine(1 + count_newlines(s, ill.0))),
-    }
+    find_parts(s).map_err(|ill| SheetError::IllLine(1 + count_newlines(s, ill.0)))
 }
 
 #[tactic(auto, using(crate::proofs::SheetProofs::sheet_laws))]

@@ -12,10 +12,6 @@ use borrow.Author.Tests.{ltb-true, ltb-false, lt-ltb, le-ltb}
 use lib.Dec.{ltb}
 use lib.ListN.{length, set, drop, get_or, length-append, length-set, drop_of_length-le}
 use lib.Seq.{drop-cons}
-use borrow.Rule.Slice.PartMut.{put_mid}
-use Rattle.std.proofs.lemmas.List.Edits.{paste_all, sets-eq}
-use Rattle.std.proofs.lemmas.Slice.{put_mid-paste}
-use Rattle.std.proofs.lemmas.List.{append_assoc}
 use Rattle.conditions.specs.Conditions.{pick}
 use Rattle.slices.specs.Put.{Put}
 use Rattle.slices.proofs.Puts.{put_length, put_then, put_as, put_none, put_one}
@@ -76,12 +72,6 @@ module _ {l m : List ℕ} {at r : ℕ} (n : ℕ) (g : 10 ≤ n) (h : n < 2 ^ 64)
   decimal_room k =
       let a : length (decimal (n / 10)) + 1 ≤ 20 = omega (arith, decimal_few n, ap length (decimal_long n g h), length-append (decimal (n / 10)) ((48 + n % 10) ∷ [])) in
       omega (arith, p.next, put_length p)
-
--- ---- bytes that were copied over a part of the slice
-
-pub bytes_put : (l m w : List ℕ) (at n : ℕ) → m ≡ w → n ≡ length w → at + length w ≤ length l → Put l (put_mid at n l m) at w (at + length w)
-bytes_put l m w at n e k h =
-    record { next = refl; numbers = put_mid-paste at n l m w n e refl k ∙ paste_all l at w n k ∙ rw (k, sets-eq w l at h, append_assoc) }
 
 -- ---- a number, or a dash
 

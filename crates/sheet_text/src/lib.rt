@@ -45,7 +45,7 @@ fn put_number(out: &mut [u8], at: usize, dash: bool, n: u64) -> usize
     put_decimal(out, at, n)
 }
 
-#[tactic(auto, using(crate::proofs::Puts::bytes_put))]
+#[tactic(auto, using(slices::proofs::Puts::put_copied))]
 pub fn put_bytes(out: &mut [u8], at: usize, word: &[u8]) -> usize
     requires { at + length word.now ≤ length out.old }
     ensures { Put out.old out.new at word.now result }

@@ -1,16 +1,17 @@
 -- What the check does not find alone for `plan_copy`.
 use mathlib.Core.Path.{◌∙◌}
 use Rattle.refusals.specs.Order.{decided}
+use Rattle.c_records.specs.CRecords.{side_from}
 use Rattle.c_records.proofs.Passing.{check_passes, check_hands}
 use Rattle.c_uploads.specs.Answer.{answer}
 use Rattle.c_uploads.proofs.plan_copy.Goals as goal
 
-pub returns-in_err-check_aspect : goal.returns-in_err-check_aspect
+pub returns-in_err-t : goal.returns-in_err-t
 unfolding answer decided
-returns-in_err-check_aspect c = check_hands _ _ _ c.check_aspect.ensures c.in_err-check_aspect.was c.from_residual.ensures.1
+returns-in_err-t c = check_hands _ _ _ c.side_from.ensures c.in_err-t.was c.from_residual.ensures.1
 
 pub returns : goal.returns
-unfolding answer decided
+unfolding answer decided side_from
 returns c =
-    check_passes _ _ _ c.check_aspect.ensures c.in_ok-check_aspect.was
-    (c.copy_buffer_to_texture.ensures ∙ rw (c.device_with-device.ensures, c.buffer_from-b.ensures, c.layout_from-layout.ensures, c.texture_from.ensures, c.view_from.ensures, c.size_from-s.ensures))
+    check_passes _ _ _ c.side_from.ensures c.in_ok-t.was
+    (λ e. c.copy_buffer_to_texture.ensures ∙ rw (c.device_with-device.ensures, c.buffer_from-b.ensures, c.layout_from-layout.ensures, c.size_from-s.ensures, e))

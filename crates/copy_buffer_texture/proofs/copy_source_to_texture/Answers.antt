@@ -9,4 +9,5 @@ returns-in_err-t c = read_hands _ _ c.check_texture.ensures c.in_err-t.was c.fro
 
 pub returns : goal.returns
 unfolding upload_recorded
-returns c = read_goes _ _ c.check_texture.ensures c.in_ok-t.was c.ranged.ensures
+returns c =
+    read_goes _ _ c.check_texture.ensures c.in_ok-t.was c.ranged.ensures

@@ -13,7 +13,7 @@ use Rattle.sheet_lines.proofs.put_refusal.Goals as goal
 pub put_row-requires : goal.put_row-requires
 put_row-requires c =
     let copy = c.put_copy-a.ensures in
-    rw c.from.ensures (omega (arith, refusal_count c.args.why, copy_few c.args.k, copy.next, put_length copy, c.requires))
+    rw c.from.ensures (omega (arith, refusal_count c.args.why, copy_few c.args.k, copy.next, put_length copy))
 
 pub returns : goal.returns
 unfolding refusal_text

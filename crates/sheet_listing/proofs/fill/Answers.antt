@@ -1,9 +1,8 @@
 -- What the check does not find alone for `fill`.
-use Rattle.sheet_listing.proofs.Whole.{part_filled}
+use mathlib.Core.Path.{refl}
+use Rattle.sheet_listing.specs.Listing.{rest_of}
 use Rattle.sheet_listing.proofs.fill.Goals as goal
 
-pub returns : goal.returns
-returns c =
-    let put = c.put_pieces-put.ensures in
-    let all = part_filled _ _ _ _ c.as_slice-textures.ensures c.as_slice-buffers.ensures _ _ _ _ (put.fills, (put.count_in_bounds, put.ends)) in
-    record { fills = all.0; count_in_bounds = all.1.0; ends = all.1.1 }
+pub returns-in-Ended-clause-ends : goal.returns-in-Ended-clause-ends
+unfolding rest_of
+returns-in-Ended-clause-ends c room none = rw c.in-Ended.is refl

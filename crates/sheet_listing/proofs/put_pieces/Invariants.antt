@@ -4,8 +4,8 @@ use lib.ListN.{length}
 use Rattle.sheet_listing.proofs.Left.{Filling}
 use Rattle.sheet_listing.proofs.put_pieces.Given as goal
 
-abbrev pub invariant-loop-out : goal.invariant-loop-out
-invariant-loop-out l = Filling l.s l.textures l.buffers l.initial.st l.st l.initial.out l.out l.at
+abbrev pub invariant-loop-stepped : goal.invariant-loop-stepped
+invariant-loop-stepped l = Filling l.sheet.text.now l.sheet.textures.now l.sheet.buffers.now l.sheet.device l.initial.copies l.copies l.initial.out l.out l.at
 
-abbrev pub decreases-loop-out : goal.decreases-loop-out
-decreases-loop-out l = length l.out - l.at
+abbrev pub decreases-loop-stepped : goal.decreases-loop-stepped
+decreases-loop-stepped l = length l.out - l.at

@@ -5,7 +5,7 @@ use lib.ListN.{length-set}
 use Rattle.sheet_sections.proofs.RowLaws.{places_on}
 use Rattle.sheet_sections.proofs.find_places.Goals as goal
 
-pub loop-i-preserved : goal.loop-i-preserved
-loop-i-preserved c =
-    let l = c.loop-i in
-    (places_on _ _ _ _ _ l.places _ (omega arith) c.read_row-at.ensures ∙ l.invariant.0, simp length-set l.invariant.1)
+pub loop-place-preserved : goal.loop-place-preserved
+loop-place-preserved c =
+    let l = c.loop-place in
+    (places_on _ _ _ _ _ l.place-items _ _ (omega arith) (omega arith) c.read_row-at.ensures ∙ l.invariant.0, simp length-set l.invariant.1)

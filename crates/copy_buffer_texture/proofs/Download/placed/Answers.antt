@@ -8,7 +8,7 @@ use Rattle.copy_buffer_texture.proofs.Download.placed.Goals as goal
 pub invariant_of-span : goal.invariant_of-span
 invariant_of-span c =
     let d = c.args.self.now in
-    record { low = end_fits _ d.layout d.t.side.texture.format d.t.side.view.aspect d.b.buffer Destination d.size _ d.b.in_bounds c.check_data.ensures c.in_ok-info.was }
+    record { low = end_fits _ d.copy.layout d.copy.texture.texture.format d.copy.texture.view.aspect d.b.buffer Destination d.copy.size _ d.b.in_bounds c.check_data.ensures c.in_ok-info.was }
 
 pub returns-in_err-info : goal.returns-in_err-info
 unfolding download_placed

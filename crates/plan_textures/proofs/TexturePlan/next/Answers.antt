@@ -5,7 +5,7 @@ use Rattle.plan_textures.proofs.TexturePlan.next.Goals as goal
 
 pub returns-in-Some : goal.returns-in-Some
 unfolding next_of
-returns-in-Some c = one_fewer _ _ _ _ _ _ c.checked_sub.ensures c.in-Some.is (λ e. rw (c.region_of.ensures, c.advance.ensures e))
+returns-in-Some c = one_fewer _ _ _ _ _ _ c.checked_sub.ensures c.in-Some.is (λ e. rw (c.region.ensures, c.advance.ensures e))
 
 pub returns-in-None : goal.returns-in-None
 unfolding next_of
