@@ -1,5 +1,5 @@
--- The starred points of document 01, with the listings that it gives, and a point of copies from memory (document 02's first request), whose
--- listing was worked out by hand; one list.
+-- The starred points of document 01, with the listings that it gives, but for an end past 32 bits, which is document 02's (its second request);
+-- and a point of copies from memory (its first), whose listing was worked out by hand. One list.
 use Rattle.std.specs.Prelude.{◌≡◌, Ok, List, [], ◌∷◌, map, ℕ, get_or}
 use Prim.Native.String.{String}
 use Rattle.measures.specs.declared.Extent3d.{Extent3d}
@@ -29,10 +29,10 @@ points =
       sheet = "1\n1 1\n1\n2 2 8 8 2 1 1 3\n1\n4096 12\n1\n2 0 0 256 8 0 0 0 0 0 0 8 8 2\n";
       listing = "copy 0 ok 2 2 3872\nt 0 0 0 2 0\nb 0 0 3872 1\nr 0 256 8 0 0 0 0 0 1 8 8 1\nr 2048 256 8 0 1 0 0 0 1 8 8 1\n";
     }
-    -- r8unorm width 8: x 8, width 0 is accepted; x 9, width 0 is 9 with limit 8; x 4,294,967,295, width 2 is 9 with end 1
+    -- r8unorm width 8: x 8, width 0 is accepted; x 9, width 0 is 9 with limit 8; x 4,294,967,295, width 2 is 9 with end 4,294,967,297
     ∷ record {
       sheet = "1\n1 1\n1\n0 2 8 8 1 1 1 3\n1\n64 12\n3\n2 0 0 - - 0 0 8 0 0 0 0 1 1\n2 0 0 - - 0 0 9 0 0 0 0 1 1\n2 0 0 - - 0 0 4294967295 0 0 0 2 1 1\n";
-      listing = "copy 0 ok 0 0 0\ncopy 1 refused 9 2 1 9 9 8\ncopy 2 refused 9 2 1 4294967295 1 8\n";
+      listing = "copy 0 ok 0 0 0\ncopy 1 refused 9 2 1 9 9 8\ncopy 2 refused 9 2 1 4294967295 4294967297 8\n";
     }
     -- depth32float 8×8, 2 layers, z 1, depth 1, 256 bytes per row, to a buffer: 1,824 bytes; width 7 is 10
     ∷ record {

@@ -1,2 +1,4 @@
+pub mod Boxes
+pub mod Ends
 pub mod Levels
 pub mod Second

@@ -9,6 +9,8 @@ use lib.Dec.{leb}
 use lib.ListN.{get_or}
 use borrow.Author.Tests.{lt-leb}
 use Rattle.refusals.specs.declared.TransferError.{TransferError}
+use Rattle.refusals.specs.declared.TransferError.TheVariants as E
+use Rattle.refusals.specs.Numbers.{numbers_of}
 use Rattle.refusals.specs.declared.CopySide.TheVariants.{Source}
 use Rattle.refusals.specs.Order.{Checks, refuse_if, first, decided}
 use Rattle.refusals.proofs.Order.{test_off}
@@ -17,7 +19,7 @@ use Rattle.rule_copy_range.proofs.Accepted.{every_range}
 use Rattle.plan_buffer_texture.specs.declared.BufferTexturePlan.{BufferTexturePlan}
 use Rattle.copy_buffer_texture.specs.Copy.{Direction, Copy}
 use Rattle.copy_buffer_texture.specs.Plan.{download_checks, checks_of, plan_for, planned}
-use Rattle.claim_refusals.specs.Second.{also_asked, EverySecondLevelCheck}
+use Rattle.claim_refusals.specs.Second.{also_asked, EverySecondLevelCheck, RetiredNumber}
 
 -- ---- a check that finds nothing where an earlier one does not
 
@@ -51,3 +53,45 @@ unfolding planned
 every_second_level_check c b e n way l =
     let plan = Ok (plan_for c) in
     never_met plan 2 n _ (download_checks b c) (omega (arith, l)) (no_level c b e) ∙ sym (ap (λ (d : Direction). decided (checks_of d c) plan) way)
+
+-- ---- the number of such a check
+
+pub retired_number : RetiredNumber
+unfolding numbers_of
+retired_number E.InvalidSheetIndex h = omega (arith, h)
+retired_number (E.InvalidTextureRecord _) h = omega (arith, h)
+retired_number (E.InvalidBufferRecord _) h = omega (arith, h)
+retired_number E.SameSourceDestinationBuffer h = omega (arith, h)
+retired_number (E.MissingBufferUsage _) h = omega (arith, h)
+retired_number (E.MissingTextureUsage _) h = omega (arith, h)
+retired_number (E.BufferStartOffsetOverrun _ _ _) h = omega (arith, h)
+retired_number (E.BufferEndOffsetOverrun _ _ _ _) h = omega (arith, h)
+retired_number (E.TextureOverrun _ _ _ _ _) h = omega (arith, h)
+retired_number (E.UnsupportedPartialTransfer _ _ _ _ _ _ _) h = omega (arith, h)
+retired_number (E.InvalidCopyWithinSameTexture _ _ _ _ _) h = omega (arith, h)
+retired_number (E.InvalidTextureAspect _ _) h = omega (arith, h)
+retired_number (E.InvalidTextureMipLevel _ _) h = omega (arith, h)
+retired_number (E.UnalignedBufferOffset _) h = omega (arith, h)
+retired_number (E.UnalignedCopySize _) h = omega (arith, h)
+retired_number E.UnalignedCopyWidth h = omega (arith, h)
+retired_number E.UnalignedCopyHeight h = omega (arith, h)
+retired_number E.UnalignedCopyOriginX h = omega (arith, h)
+retired_number E.UnalignedCopyOriginY h = omega (arith, h)
+retired_number E.UnalignedBytesPerRow h = omega (arith, h)
+retired_number E.UnspecifiedBytesPerRow h = omega (arith, h)
+retired_number E.UnspecifiedRowsPerImage h = omega (arith, h)
+retired_number E.InvalidBytesPerRow h = omega (arith, h)
+retired_number E.InvalidRowsPerImage h = omega (arith, h)
+retired_number E.SizeOverflow h = omega (arith, h)
+retired_number E.CopySrcMissingAspects h = omega (arith, h)
+retired_number E.CopyDstMissingAspects h = omega (arith, h)
+retired_number E.CopyAspectNotOne h = omega (arith, h)
+retired_number (E.CopyFromForbiddenTextureFormat _) h = omega (arith, h)
+retired_number (E.CopyFromForbiddenTextureFormatAspect _ _) h = omega (arith, h)
+retired_number (E.CopyToForbiddenTextureFormat _) h = omega (arith, h)
+retired_number (E.CopyToForbiddenTextureFormatAspect _ _) h = omega (arith, h)
+retired_number (E.TextureFormatsNotCopyCompatible _ _) h = omega (arith, h)
+retired_number (E.MissingDownlevelFlags _) h = omega (arith, h)
+retired_number (E.InvalidSampleCount _) h = omega (arith, h)
+retired_number (E.SampleCountNotEqual _ _) h = omega (arith, h)
+retired_number E.RegionSliceTooShort h = omega (arith, h)

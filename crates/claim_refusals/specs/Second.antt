@@ -1,10 +1,12 @@
--- The Rust asks for the level of a copy into a buffer again, after the texture's usage. After the check of the range such a check is never met.
+-- The Rust asks for the level of a copy into a buffer again, after the texture's usage. After the check of the range such a check is never met, and
+-- its number, 37, is no refusal's (document 02, request 2).
 use Rattle.std.specs.Prelude.{Ok}
 use mathlib.Core.Path.{◌≡◌}
 use mathlib.Core.List.{List, [], ◌∷◌}
 use Prim.Native.Nat.{ℕ, zero, suc, ◌≤◌}
 use lib.Dec.{leb}
 use Rattle.refusals.specs.declared.TransferError.{TransferError}
+use Rattle.refusals.specs.Numbers.{numbers_of}
 use Rattle.refusals.specs.Order.{Checks, refuse_if, decided}
 use Rattle.records.specs.declared.Buffer.{Buffer}
 use Rattle.copy_buffer_texture.specs.Copy.{Download, Copy}
@@ -21,3 +23,6 @@ abbrev pub EverySecondLevelCheck : Type 0
 EverySecondLevelCheck =
     (c : Copy) (b : Buffer) (e : TransferError) (n : ℕ) → c.direction ≡ Download b → 3 ≤ n
     → decided (also_asked n (refuse_if (leb c.texture.mip_level_count c.view.mip_level) e) (download_checks b c)) (Ok (plan_for c)) ≡ planned c
+
+abbrev pub RetiredNumber : Type 0
+RetiredNumber = (e : TransferError) → (numbers_of e).number ≡ 37 → ⊥

@@ -6,7 +6,7 @@ use mathlib.Core.Bool.{true, false}
 use mathlib.Core.List.{[], flatten}
 use Prim.Native.Nat.{ℕ}
 use lib.Dec.{eqb}
-use borrow.Author.Tests.{not-false, not-true, lt-leb}
+use borrow.Author.Tests.{not-false, not-true}
 use Rattle.conditions.proofs.Rules.{not_yes, not_no}
 use Rattle.refusals.specs.declared.TransferError.{TransferError}
 use Rattle.refusals.specs.declared.CopySide.{CopySide}
@@ -132,12 +132,12 @@ module _ (c : Copy) where
           texture_bounds = texture_of_lem c.texture Source (n 0);
           range = (every_range c.view c.texture Source c.size).holds (n 2);
           chosen = chosen_of c (n 3);
-          buffer_usage = rw way (not-false _ (test_fails _ _ (n 10)));
+          buffer_usage = rw way (not-false _ (test_fails _ _ (n 9)));
           texture_usage = rw way (not-false _ (test_fails _ _ (n 4)));
-          format = rw way (passes_checked _ (n 6));
-          layout = rw way (passes_checked _ (n 7));
-          linear = rw way ((every_linear.rule c.layout b.size Destination (dense c)).holds (n 8));
-          fact = test_fails _ _ (n 9);
+          format = rw way (passes_checked _ (n 5));
+          layout = rw way (passes_checked _ (n 6));
+          linear = rw way ((every_linear.rule c.layout b.size Destination (dense c)).holds (n 7));
+          fact = test_fails _ _ (n 8);
         },
         f.1,
       )
@@ -151,7 +151,6 @@ module _ (c : Copy) where
       let f = a.format in
       let l = a.layout in
       let m = a.linear in
-      let level = a.range.level in
       all_pass BufferTexturePlan (plan_for c) (download_checks buffer c) (
         texture_passes c.texture Source a.texture_bounds,
         (
@@ -163,19 +162,16 @@ module _ (c : Copy) where
               (
                 test_off _ _ (not_no _ (rw way at t)),
                 (
-                  test_off _ _ (lt-leb _ _ level),
+                  checked_passes _ (rw way at f),
                   (
-                    checked_passes _ (rw way at f),
+                    checked_passes _ (rw way at l),
                     (
-                      checked_passes _ (rw way at l),
+                      linear_passes Destination buffer.size (rw way at m),
                       (
-                        linear_passes Destination buffer.size (rw way at m),
+                        test_off _ _ a.fact,
                         (
-                          test_off _ _ a.fact,
-                          (
-                            test_off _ _ (not_no _ (rw way at b)),
-                            tt,
-                          ),
+                          test_off _ _ (not_no _ (rw way at b)),
+                          tt,
                         ),
                       ),
                     ),

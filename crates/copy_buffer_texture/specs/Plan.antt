@@ -1,5 +1,5 @@
 -- Copies between a buffer, or memory, and a texture: the checks in their order, and the plan.
-use Rattle.std.specs.Prelude.{ℕ, Bool, true, false, ◌&&◌, not, leb, None, Result, Ok}
+use Rattle.std.specs.Prelude.{ℕ, Bool, true, false, ◌&&◌, not, None, Result, Ok}
 use mathlib.Core.List.{[], ◌∷◌, flatten}
 use Rattle.measures.specs.declared.Extent3d.{Extent3d}
 use Rattle.flags.specs.BufferUsages as BufferUsages
@@ -91,7 +91,6 @@ download_checks b c =
     ∷ flatten (range_checks c.view c.texture Source c.size)  -- module 3
     ∷ flatten (selector_checks c.view c.texture)  -- 12
     ∷ refuse_if (not (contains c.texture.usage.0 TextureUsages.COPY_SRC)) (E.MissingTextureUsage Source)  -- 6
-    ∷ refuse_if (leb c.texture.mip_level_count c.view.mip_level) (E.InvalidMipLevel c.view.mip_level c.texture.mip_level_count)  -- 37
     ∷ flatten (src_format_checks c.texture.format c.view.aspect)  -- 29 or 30
     ∷ flatten (layout_checks c.view.aspect (aspects c) c.texture c.layout true)  -- 35; 28; 14; 20
     ∷ flatten (linear_checks c.layout b.size Destination (dense c))  -- module 4

@@ -1,6 +1,6 @@
 -- The same answers as the functions between the first check and the plan give them. Only the contracts of private functions cite this: no caller need
 -- read it.
-use Rattle.std.specs.Prelude.{ℕ, ◌^◌, ◌<◌, true, not, leb, Result, Ok, Err}
+use Rattle.std.specs.Prelude.{ℕ, ◌^◌, ◌<◌, true, not, Result, Ok, Err}
 use Rattle.conditions.specs.Conditions.{stop_if, ◌$◌}
 use Rattle.measures.specs.declared.Extent3d.{Extent3d}
 use Rattle.flags.specs.BufferUsages as BufferUsages
@@ -99,11 +99,10 @@ download_placed c b part =
     stop_if (not (contains b.usage.0 BufferUsages.COPY_DST)) (Err (E.MissingBufferUsage Destination)) $
     Ok (plan_of c.layout c.size part.extent part.layers part.base info (texture_range Source c.texture.view c.texture.texture c.size) (buffer_init c.layout.offset Destination info.bytes_in_copy info.is_contiguous))
 
--- 6; 37; 29 or 30; 35; 28; 14; 20
+-- 6; 29 or 30; 35; 28; 14; 20
 unfoldable pub download_allowed : LinearTextureCopy → Buffer → TexturePart → Result BufferTexturePlan TransferError
 download_allowed c b part =
     stop_if (not (contains c.texture.texture.usage.0 TextureUsages.COPY_SRC)) (Err (E.MissingTextureUsage Source)) $
-    stop_if (leb c.texture.texture.mip_level_count c.texture.view.mip_level) (Err (E.InvalidMipLevel c.texture.view.mip_level c.texture.texture.mip_level_count)) $
     after (checked (src_format_checks c.texture.texture.format c.texture.view.aspect)) λ _.
     after (checked (layout_checks c.texture.view.aspect part.base.aspect.0 c.texture.texture c.layout true)) λ _.
     download_placed c b part

@@ -285,12 +285,6 @@ impl Download {
                 side: CopySide::Source,
             });
         }
-        if view.mip_level >= t.mip_level_count {
-            return Err(TransferError::InvalidMipLevel {
-                requested: view.mip_level,
-                count: t.mip_level_count,
-            });
-        }
         rule_formats::validate_texture_copy_src_format(t.format, view.aspect)?;
         self.copy.check_layout(part.base.aspect, true)?;
         self.placed(part)

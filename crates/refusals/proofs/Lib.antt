@@ -1,3 +1,4 @@
 pub mod Arms
+pub mod Every
 pub mod Order
 pub mod Stages

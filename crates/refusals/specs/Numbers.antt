@@ -59,5 +59,5 @@ numbers_of (E.TextureFormatsNotCopyCompatible from to) = six 33 0 0 0 0 0
 numbers_of (E.MissingDownlevelFlags flag) = six 34 0 0 0 0 0
 numbers_of (E.InvalidSampleCount samples) = six 35 0 0 samples 0 0
 numbers_of (E.SampleCountNotEqual samples samples') = six 36 0 0 samples samples' 0
-numbers_of (E.InvalidMipLevel level count) = six 37 0 0 0 0 0
+-- 37, of a check that is never met, is not used
 numbers_of E.RegionSliceTooShort = six 38 0 0 0 0 0

@@ -26,10 +26,9 @@ pub enum DownlevelFlags {
     UnrestrictedIndexBuffer,
 }
 
-// wgpu-core's variants and details, but for what belongs to clears, external images and mapped buffers, with the planner's own:
-// InvalidSheetIndex, InvalidTextureRecord, InvalidBufferRecord, RegionSliceTooShort.
-// A missing usage has its side where the Rust names the resource. `end_offset` is wide enough for a sum of two of the
-// others.
+// wgpu-core's variants and details, but for what belongs to clears, external images and mapped buffers and for InvalidMipLevel, which is
+// never met; with the planner's own: InvalidSheetIndex, InvalidTextureRecord, InvalidBufferRecord, RegionSliceTooShort.
+// A missing usage has its side where the Rust names the resource. `end_offset` is start plus size, which the Rust wraps to 32 bits.
 #[derive(Clone, Copy)]
 pub enum TransferError {
     InvalidSheetIndex,
@@ -124,10 +123,6 @@ pub enum TransferError {
     SampleCountNotEqual {
         src_sample_count: u32,
         dst_sample_count: u32,
-    },
-    InvalidMipLevel {
-        requested: u32,
-        count: u32,
     },
     RegionSliceTooShort,
 }
@@ -295,7 +290,6 @@ impl From<TransferError> for Refusal {
                 src_sample_count,
                 dst_sample_count,
             } => counted(36, src_sample_count, dst_sample_count, 0),
-            TransferError::InvalidMipLevel { .. } => bare(37),
             TransferError::RegionSliceTooShort => bare(38),
         }
     }

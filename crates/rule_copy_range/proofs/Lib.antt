@@ -1,3 +1,4 @@
 pub mod Rules
 pub mod Accepted
 pub mod Inside
+pub mod Overruns

@@ -1,5 +1,5 @@
 -- The range of a copy within a texture.
-use Rattle.std.specs.Prelude.{ℕ, ◌+◌, ◌-◌, ◌%◌, ◌^◌, Bool, false, not, ◌&&◌, ◌||◌, [], ◌∷◌, ◌==◌, nat_le, nat_lt, Result, Ok}
+use Rattle.std.specs.Prelude.{ℕ, ◌+◌, ◌-◌, Bool, false, not, ◌&&◌, ◌||◌, [], ◌∷◌, ◌==◌, nat_le, nat_lt, Result, Ok}
 use mathlib.Core.List.{flatten}
 use Rattle.measures.specs.declared.Texels.{Texels}
 use Rattle.measures.specs.declared.BlockDimensions.{BlockDimensions}
@@ -22,9 +22,9 @@ use Rattle.records.specs.Extents.{physical_extent}
 use Rattle.rule_copy_range.specs.declared.Subject.{Subject}
 use Rattle.rule_copy_range.specs.declared.CopyExtent.{CopyExtent}
 
--- where a run of `size` from `start` ends, as a refusal has it: wrapped to 32 bits
+-- where a run of `size` from `start` ends
 unfoldable pub end_of : ℕ → ℕ → ℕ
-end_of start size = (start + size) % 2 ^ 32
+end_of start size = start + size
 
 -- part of a side that can only be copied whole
 unfoldable pub is_partial : Bool → ℕ → ℕ → ℕ → Bool

@@ -38,12 +38,12 @@ pub struct Run {
 }
 
 impl Run {
-    // Where it ends, as a refusal has it.
+    // Where it ends. The sum is made in 64 bits, which hold it.
     #[tactic(auto, unfolding(crate::specs::Range::end_of))]
     fn end(self) -> u64
         ensures { result ≡ end_of self.start.0 self.size.0 }
     {
-        self.start.0.wrapping_add(self.size.0) as u64
+        self.start.0 as u64 + self.size.0 as u64
     }
 
     #[tactic(auto, unfolding(crate::specs::Range::is_partial))]
@@ -53,11 +53,11 @@ impl Run {
         exact & ((self.start.0 != 0) | (self.size.0 != self.limit.0))
     }
 
-    // Whether it leaves its limit. The sum is made in 64 bits, which hold it.
+    // Whether it leaves its limit.
     fn is_overrun(self) -> bool
         ensures { result ≡ overruns self.start.0 self.size.0 self.limit.0 }
     {
-        (self.limit.0 as u64) < (self.start.0 as u64) + (self.size.0 as u64)
+        (self.limit.0 as u64) < self.end()
     }
 
     fn partial_transfer(self, of: Subject, dimension: TextureErrorDimension) -> TransferError
@@ -106,17 +106,14 @@ impl Run {
     }
 
     // Whether it lies inside its limit, and is all of it where it must be.
-    #[tactic(auto, unfolding(crate::specs::Inside::run_fits))]
+    #[tactic(auto, unfolding(crate::specs::Inside::run_fits, crate::specs::Range::end_of))]
     fn fits(self, exact: bool) -> bool
         ensures { result ≡ run_fits exact self.start self.size self.limit }
     {
-        let from = self.start.0;
-        let count = self.size.0;
-        let most = self.limit.0;
         if exact {
-            return (from == 0) & (count == most);
+            return (self.start.0 == 0) & (self.size.0 == self.limit.0);
         }
-        from as u64 + count as u64 <= most as u64
+        self.end() <= self.limit.0 as u64
     }
 }
 
