@@ -158,7 +158,7 @@ fn rust_trouble(listing: &[u8]) -> Option<&'static str> {
         .iter()
         .find_map(|line| match line.split(|byte| *byte == b' ').nth(2) {
             Some(b"panicked") => Some("the Rust panicked"),
-            Some(b"disagreed") => Some("Queue::write_texture does not agree with the Rust's rules"),
+            Some(b"disagreed") => Some("the Rust does not agree with itself or with the copy"),
             _ => None,
         })
 }

@@ -13,7 +13,8 @@ const USAGE: &str = "\
 usage: compare_sheets MODE --planner PATH [OPTION...]
 
 Runs sheets through the program at PATH and through the Rust, and compares the
-listings byte by byte. MODE is
+listings byte by byte; the ends that the Rust wraps to 32 bits, those of refusals
+9 and 10, must be whole. MODE is
 
   random     random sheets, well formed
   malformed  random sheets, spoilt
@@ -33,7 +34,7 @@ listings byte by byte. MODE is
   --out DIR        where sheets of differences are saved (differences)
   --plant KIND     change one of the planner's listings, to see it found: digit,
                    region, range, order, absent, refusal, refused, accepted,
-                   ill, newline, extra, nothing
+                   cut_bytes, cut_end, ill, newline, extra, nothing
   --plant-at N     the Nth listing that has a place for it (1)
 
 The status is 1 if a listing differs, or a planner ends with another status than 0, runs for more than 10

@@ -1,5 +1,9 @@
 //! Faults planted in a planner's answer, to see that the comparison finds them.
 
+/// The places of a refusal's number and end among the words of its line.
+const NUMBER: usize = 3;
+const END: usize = 7;
+
 /// A fault of a listing.
 #[derive(Clone, Copy, Debug, Eq, PartialEq)]
 pub enum Plant {
@@ -19,6 +23,10 @@ pub enum Plant {
     Refused,
     /// An accepted copy is refused.
     Accepted,
+    /// The bytes of an 8 are taken modulo 2^32.
+    CutBytes,
+    /// The end of a 9 or 10 is wrapped to 32 bits, as the Rust has it.
+    CutEnd,
     /// An ill sheet's line has another number.
     Ill,
     /// The last newline is missing.
@@ -30,7 +38,7 @@ pub enum Plant {
 }
 
 impl Plant {
-    pub const ALL: [(&'static str, Self); 12] = [
+    pub const ALL: [(&'static str, Self); 14] = [
         ("digit", Self::Digit),
         ("region", Self::Region),
         ("range", Self::Range),
@@ -39,6 +47,8 @@ impl Plant {
         ("refusal", Self::Refusal),
         ("refused", Self::Refused),
         ("accepted", Self::Accepted),
+        ("cut_bytes", Self::CutBytes),
+        ("cut_end", Self::CutEnd),
         ("ill", Self::Ill),
         ("newline", Self::Newline),
         ("extra", Self::Extra),
@@ -67,12 +77,7 @@ impl Plant {
 
     fn changed(self, listing: &[u8]) -> Option<Vec<u8>> {
         match self {
-            Self::Digit => {
-                let place = listing.iter().rposition(u8::is_ascii_digit)?;
-                let mut changed = listing.to_vec();
-                changed[place] = b'0' + (changed[place] - b'0' + 1) % 10;
-                Some(changed)
-            }
+            Self::Digit => with_last_digit_changed(listing),
             Self::Region => without_line(listing, |line| line.starts_with(b"r ")),
             Self::Range => without_line(listing, |line| {
                 line.starts_with(b"t ") || line.starts_with(b"b ")
@@ -85,8 +90,8 @@ impl Plant {
                 line.starts_with(b"r ").then_some(changed)
             }),
             Self::Refusal => with_line(listing, |line| {
-                let number = field(line, "refused", 3)?;
-                Some(replace_field(line, 3, &(number + 1).to_string()))
+                let number = field(line, "refused", NUMBER)?;
+                Some(replace_field(line, NUMBER, &(number + 1).to_string()))
             }),
             Self::Refused => with_line(listing, |line| {
                 field(line, "refused", 1)?;
@@ -96,6 +101,8 @@ impl Plant {
                 field(line, "ok", 1)?;
                 Some(format!("{} refused 1 0 0 0 0 0\n", first_words(line)).into_bytes())
             }),
+            Self::CutBytes => with_line(listing, |line| with_cut_end(line, &[8])),
+            Self::CutEnd => with_line(listing, |line| with_cut_end(line, &[9, 10])),
             Self::Ill => with_line(listing, |line| {
                 let number = line.strip_prefix(b"sheet ")?;
                 let number: u64 = std::str::from_utf8(number).ok()?.trim_end().parse().ok()?;
@@ -111,6 +118,13 @@ impl Plant {
 /// The lines of a listing, each with its newline.
 fn lines(listing: &[u8]) -> Vec<&[u8]> {
     listing.split_inclusive(|byte| *byte == b'\n').collect()
+}
+
+fn with_last_digit_changed(listing: &[u8]) -> Option<Vec<u8>> {
+    let place = listing.iter().rposition(u8::is_ascii_digit)?;
+    let mut changed = listing.to_vec();
+    changed[place] = b'0' + (changed[place] - b'0' + 1) % 10;
+    Some(changed)
 }
 
 /// The listing with the first line that can be changed.
@@ -146,6 +160,16 @@ fn field(line: &[u8], word: &str, place: usize) -> Option<u64> {
         return None;
     }
     words.get(place)?.parse().ok()
+}
+
+/// A refusal's line with the remainder of its end by 2^32, if it has one of these
+/// numbers and so large an end.
+fn with_cut_end(line: &[u8], numbers: &[u64]) -> Option<Vec<u8>> {
+    const WRAP: u64 = 1 << 32;
+    let number = field(line, "refused", NUMBER)?;
+    let end = field(line, "refused", END)?;
+    let has_place = numbers.contains(&number) && end >= WRAP;
+    has_place.then(|| replace_field(line, END, &(end % WRAP).to_string()))
 }
 
 fn replace_field(line: &[u8], place: usize, value: &str) -> Vec<u8> {

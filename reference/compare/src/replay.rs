@@ -1,7 +1,7 @@
-//! A fixed list of sheets with the Rust's answers.
+//! A fixed list of sheets with the Rust's answers, ends of 9 and 10 made whole.
 
 use copy_sheet::{
-    run_copy, sheet_text, Copy, CopyKind, InitAction, Objects, Outcome, Recorder, Sheet,
+    run_copy, sheet_text, Copy, CopyKind, InitAction, Objects, Outcome, Recorder, Refusal, Sheet,
     MAX_SHEET_BYTES,
 };
 use sheet_generator::{malformed_text, random_sheet, Rng};
@@ -10,7 +10,7 @@ use crate::packer::moved;
 use crate::{bench_points, difference_sheets, reference_listing, sheet_lines, starred_points};
 
 const KINDS: usize = CopyKind::ALL.len();
-const NUMBERS: usize = 38;
+const NUMBERS: usize = Refusal::LAST + 1;
 
 /// The refusals that each kind can give, as docs/REFERENCE.md has them.
 pub const REACHABLE: [(CopyKind, &[usize]); KINDS] = [

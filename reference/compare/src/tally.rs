@@ -2,9 +2,9 @@
 
 use std::fmt;
 
-use copy_sheet::{parse, CopyKind};
+use copy_sheet::{parse, CopyKind, Refusal};
 
-const NUMBERS: usize = 38;
+const NUMBERS: usize = Refusal::LAST + 1;
 const KINDS: usize = CopyKind::ALL.len();
 
 type Counts = [u64; KINDS];
@@ -19,7 +19,7 @@ pub struct Tally {
     pub accepted: Counts,
     pub refused: [Counts; NUMBERS],
     pub panicked: Counts,
-    /// Writes from memory of which the Rust has two answers.
+    /// Copies on which the Rust does not agree with itself or with the copy.
     pub disagreed: Counts,
     pub differences: u64,
     /// Sheets left out, for lack of time or after too many differences.

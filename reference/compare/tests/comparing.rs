@@ -74,7 +74,12 @@ fn the_rust_agrees_with_itself() {
 fn planted_faults_are_found() {
     for (name, _) in Plant::ALL {
         let folder = folder(&format!("plant-{name}"));
-        for (mode, at) in [("malformed", "1"), ("malformed", "3")] {
+        // Of spoilt sheets few are run, and few answers have such an end.
+        let mode = match name {
+            "cut_bytes" | "cut_end" => "random",
+            _ => "malformed",
+        };
+        for at in ["1", "3"] {
             let arguments = [
                 mode,
                 "--planner",
@@ -95,6 +100,104 @@ fn planted_faults_are_found() {
             assert!(text.contains("differences 1, in"), "{name} at {at}: {text}");
             assert!(folder.join("1.sheet").exists(), "{name} at {at}");
         }
+    }
+}
+
+/// A planner's answer to a sheet of one copy: all but `copy 0 refused`.
+type Numbers = [u64; 6];
+
+/// An 8 of each kind that has it, with more bytes than 32 bits count.
+const BYTES_PAST_32_BITS: [(&str, Numbers); 4] = [
+    ("1 0 0 1 0 4294967300", [8, 1, 0, 0, 4_294_967_300, 4_096]),
+    (
+        "2 0 0 4294967040 4294967295 0 0 0 0 0 0 1 258 2",
+        [8, 1, 0, 0, 18_446_744_073_709_486_081, 4_096],
+    ),
+    (
+        "3 0 0 256 16777217 0 0 0 0 0 0 1 1 2",
+        [8, 2, 0, 0, 4_294_967_553, 4_096],
+    ),
+    (
+        "5 4096 1 4294967295 1 0 0 0 0 0 0 1 1 2",
+        [8, 1, 0, 1, 4_294_967_296, 4_096],
+    ),
+];
+
+/// A 9 or 10 of each kind that has them, with an end past 32 bits.
+const ENDS_PAST_32_BITS: [(&str, Numbers); 5] = [
+    (
+        "2 0 0 - - 0 0 4294967295 0 0 0 1 1 1",
+        [9, 2, 1, 4_294_967_295, 4_294_967_296, 1],
+    ),
+    (
+        "3 0 0 - - 0 0 0 4294967295 0 0 1 2 1",
+        [9, 1, 2, 4_294_967_295, 4_294_967_297, 259],
+    ),
+    (
+        "5 4096 0 - - 0 0 0 0 4294967295 0 1 1 4294967295",
+        [9, 2, 3, 4_294_967_295, 8_589_934_590, 2],
+    ),
+    (
+        "4 1 0 4294967295 0 0 0 1 0 0 0 0 0 1 259 1",
+        [10, 1, 1, 4_294_967_295, 4_294_967_296, 1],
+    ),
+    (
+        "4 1 0 0 0 0 0 1 0 0 4294967295 0 0 1 259 1",
+        [10, 2, 2, 4_294_967_295, 4_294_967_554, 259],
+    ),
+];
+
+/// Ends below 2^32, of each refusal that has one.
+const SHORT_ENDS: [(&str, Numbers); 5] = [
+    ("1 0 0 1 0 4100", [8, 1, 0, 0, 4_100, 4_096]),
+    ("2 0 0 - - 0 0 2 0 0 0 1 1 1", [9, 2, 1, 2, 3, 1]),
+    ("4 1 0 0 1 0 0 1 0 0 0 0 0 1 259 1", [10, 1, 2, 1, 260, 259]),
+    ("4 0 0 0 0 1 0 0 0 0 0 1 0 1 1 1", [11, 0, 0, 1, 1, 1]),
+    ("4 0 0 0 0 0 0 1 0 0 0 0 0 1 259 1", [36, 0, 0, 1, 4, 0]),
+];
+
+/// How many differences are found where a planner's answer has this end.
+fn differences_with_end(folder: &Path, copy: &str, numbers: Numbers, end: u64) -> u64 {
+    let [number, side, dimension, start, _, limit] = numbers;
+    let line = format!("copy 0 refused {number} {side} {dimension} {start} {end} {limit}");
+    let planner = script(folder, &format!("echo {line}"));
+    let planner = Planner::new(&planner, Planner::LIMIT);
+    let mut comparer = Comparer::new(planner, NO_LIMITS, folder.into());
+    let textures = ["0 2 1 259 2 1 1 3", "0 2 1 259 1 1 4 3"];
+    let sheet = sheet_compare::sheet_lines("1 1", &textures, &["4096 12"; 2], &[copy]);
+    comparer.compare(&sheet).expect("the planner starts");
+    comparer.differences()
+}
+
+/// The end itself is no difference, and its remainder by 2^32 is one.
+fn hold_to_whole_ends(folder: &Path, copies: &[(&str, Numbers)]) {
+    for (copy, numbers) in copies {
+        let end = numbers[4];
+        let found = |end| differences_with_end(folder, copy, *numbers, end);
+        assert_eq!(found(end), 0, "{copy}");
+        assert_eq!(found(end % (1 << 32)), 1, "{copy}");
+    }
+}
+
+#[test]
+fn a_planner_that_takes_the_remainder_in_8_is_caught() {
+    hold_to_whole_ends(&folder("remainder-in-8"), &BYTES_PAST_32_BITS);
+}
+
+/// The Rust does wrap these.
+#[test]
+fn a_planner_that_wraps_the_end_of_9_or_10_is_caught() {
+    hold_to_whole_ends(&folder("wrapped-ends"), &ENDS_PAST_32_BITS);
+}
+
+/// The remainder of these by 2^32 is right.
+#[test]
+fn ends_too_large_by_2_to_the_32_are_caught() {
+    let folder = folder("ends-too-large");
+    for (copy, numbers) in SHORT_ENDS {
+        let found = |end| differences_with_end(&folder, copy, numbers, end);
+        assert_eq!(found(numbers[4]), 0, "{copy}");
+        assert_eq!(found(numbers[4] + (1 << 32)), 1, "{copy}");
     }
 }
 

@@ -1,6 +1,6 @@
 //! The fixed list of sheets, and the text that holds it.
 
-use copy_sheet::{parse, CopyKind};
+use copy_sheet::{parse, CopyKind, Refusal};
 use sheet_compare::{reference_listing, replay_items, replay_text, Item, REACHABLE};
 
 /// Reads the text back.
@@ -58,7 +58,7 @@ fn every_refusal_has_a_sheet() {
         }
     }
     for (kind, numbers) in REACHABLE {
-        for number in 1..38 {
+        for number in 1..=Refusal::LAST {
             let has = seen.contains(&(kind, number));
             assert_eq!(has, numbers.contains(&number), "{kind:?} {number}");
             assert_eq!(has, replay.has(kind, number), "{kind:?} {number}");

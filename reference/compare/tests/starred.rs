@@ -1,5 +1,5 @@
 //! The starred points that are proved of the definitions are the Rust's answers,
-//! and are on the list that the planner replays.
+//! with ends made whole, and are on the list that the planner replays.
 
 use sheet_compare::{reference_listing, replay_text, starred_points, Item};
 

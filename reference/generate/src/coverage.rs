@@ -9,7 +9,7 @@ use copy_sheet::{
 
 use crate::records::NV12;
 
-const NUMBERS: usize = 38;
+const NUMBERS: usize = Refusal::LAST + 1;
 const KINDS: usize = CopyKind::ALL.len();
 
 /// More panics and disagreements than these are counted only.

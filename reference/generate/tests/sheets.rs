@@ -1,13 +1,14 @@
 //! The generated sheets: well formed, telling, and harmless when spoilt.
 
+use std::collections::BTreeMap;
+
 use copy_sheet::{
     append_region_numbers, parse, run_copy, sheet_text, write_listing, Buffer, Copy, CopyKind,
-    InitAction, MemoryView, Objects, Outcome, Recorder, Sheet, MAX_SHEET_BYTES,
+    InitAction, MemoryView, Objects, Outcome, Recorder, Refusal, Sheet, MAX_SHEET_BYTES,
 };
 use sheet_generator::{malformed_text, random_sheet, Coverage, Rng};
 
-/// The refusals of each kind, as the order of checks names them; 37 is left
-/// out, for 13 tests the same before it.
+/// The refusals of each kind, as the order of checks names them.
 const REFUSALS: [(CopyKind, &[usize]); 5] = [
     (CopyKind::BufferToBuffer, &[1, 3, 4, 5, 7, 8, 14, 15, 34]),
     (
@@ -64,7 +65,7 @@ fn every_outcome_is_reached() {
     for (kind, numbers) in REFUSALS {
         let share = coverage.accepted(kind) * 100 / coverage.copies(kind);
         assert!((40..=60).contains(&share), "{kind:?}: {share} % accepted");
-        for number in 1..38 {
+        for number in 1..=Refusal::LAST {
             let count = coverage.refused(kind, number);
             if numbers.contains(&number) {
                 assert!(count >= 10, "{kind:?} refused {number}: {count}");
@@ -72,6 +73,88 @@ fn every_outcome_is_reached() {
                 assert_eq!(count, 0, "{kind:?} refused {number}");
             }
         }
+    }
+}
+
+/// Refusals whose ends can be 2^32 or more, by kind of copy: number, side and
+/// dimension.
+const LONG_ENDS: [(CopyKind, &[[u32; 3]]); 5] = [
+    (CopyKind::BufferToBuffer, &[[8, 1, 0]]),
+    (
+        CopyKind::BufferToTexture,
+        &[
+            [8, 1, 0],
+            [9, 2, 1],
+            [9, 2, 2],
+            [9, 2, 3],
+            [10, 2, 1],
+            [10, 2, 2],
+        ],
+    ),
+    (
+        CopyKind::TextureToBuffer,
+        &[
+            [8, 2, 0],
+            [9, 1, 1],
+            [9, 1, 2],
+            [9, 1, 3],
+            [10, 1, 1],
+            [10, 1, 2],
+        ],
+    ),
+    (
+        CopyKind::TextureToTexture,
+        &[
+            [9, 1, 1],
+            [9, 1, 2],
+            [9, 1, 3],
+            [9, 2, 1],
+            [9, 2, 2],
+            [9, 2, 3],
+            [10, 1, 1],
+            [10, 1, 2],
+            [10, 2, 1],
+            [10, 2, 2],
+        ],
+    ),
+    (
+        CopyKind::MemoryToTexture,
+        &[
+            [8, 1, 0],
+            [9, 2, 1],
+            [9, 2, 2],
+            [9, 2, 3],
+            [10, 2, 1],
+            [10, 2, 2],
+        ],
+    ),
+];
+
+/// Ends past 32 bits come up wherever they can.
+#[test]
+fn long_ends_are_reached() {
+    let mut found: [BTreeMap<[u32; 3], u64>; 5] = Default::default();
+    let mut recorder = Recorder::new();
+    for number in 0..5_000 {
+        let sheet = random_sheet(3, number, 64);
+        let mut objects = Objects::new(&sheet);
+        for copy in &sheet.copies {
+            match run_copy(&mut recorder, &mut objects, copy) {
+                Outcome::Refused(refusal) if refusal.end >= 1 << 32 => {
+                    let place = [refusal.number, refusal.side, refusal.dimension];
+                    *found[copy.kind() as usize].entry(place).or_default() += 1;
+                }
+                _ => {}
+            }
+        }
+    }
+    for (kind, places) in LONG_ENDS {
+        let counts = &found[kind as usize];
+        assert!(counts.keys().eq(places), "{kind:?}: {counts:?}");
+        assert!(
+            counts.values().all(|count| *count >= 10),
+            "{kind:?}: {counts:?}"
+        );
     }
 }
 

@@ -190,7 +190,9 @@ fn unusable(outcome: &Outcome) -> Option<&'static str> {
     match outcome {
         Outcome::Accepted { .. } | Outcome::Refused(_) => None,
         Outcome::Panicked(_) => Some("not asked, for the Rust panicked"),
-        Outcome::Disagreed(_) => Some("not asked, for the Rust has two answers"),
+        Outcome::Disagreed(_) => {
+            Some("not asked, for the Rust does not agree with itself or with the copy")
+        }
     }
 }
 

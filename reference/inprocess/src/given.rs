@@ -186,14 +186,6 @@ fn span_of(error: &TransferError) -> [u64; 3] {
             buffer_size,
             ..
         } => [start_offset, size, buffer_size],
-        E::UnalignedBufferOffset(start) | E::UnalignedCopySize(start) => [start, 0, 0],
-        _ => texture_span_of(error).map(u64::from),
-    }
-}
-
-fn texture_span_of(error: &TransferError) -> [u32; 3] {
-    use TransferError as E;
-    match *error {
         E::TextureOverrun {
             start_offset,
             end_offset,
@@ -205,7 +197,16 @@ fn texture_span_of(error: &TransferError) -> [u32; 3] {
             end_offset,
             texture_size,
             ..
-        } => [start_offset, end_offset, texture_size],
+        } => [start_offset.into(), end_offset, texture_size.into()],
+        E::UnalignedBufferOffset(start) | E::UnalignedCopySize(start) => [start, 0, 0],
+        _ => short_span_of(error).map(u64::from),
+    }
+}
+
+/// The same where all have 32 bits.
+fn short_span_of(error: &TransferError) -> [u32; 3] {
+    use TransferError as E;
+    match *error {
         E::InvalidCopyWithinSameTexture {
             src_origin_z,
             dst_origin_z,

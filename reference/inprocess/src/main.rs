@@ -17,7 +17,8 @@ Runs copies through the Rust's functions and through the planner's, in one
 process, and compares the answers: a refusal's six numbers, or the bytes
 checked, the ranges, and the regions as they are asked for and as they are
 written. The copies are those of complete small sets, then random ones.
-A write from memory is asked of the Rust in two ways, which must agree.
+A write from memory is asked of the Rust in two ways, which must agree. The ends
+that the Rust wraps to 32 bits, those of refusals 9 and 10, must be whole.
 
   --copies N    how many random copies (1000000)
   --kind N      of all copies only those of this kind, 1 to 5
@@ -48,9 +49,11 @@ fn main() -> ExitCode {
     let options = match parse_options(std::env::args().skip(1)) {
         Ok(options) => options,
         Err(message) => {
-            let names: Vec<&str> = PLANTS.iter().map(|plant| plant.name).collect();
-            eprint!("compare_copies: {message}\n\n{USAGE}\n");
-            eprintln!("Faults to plant: {}", names.join(", "));
+            eprint!("compare_copies: {message}\n\n{USAGE}\nFaults to plant:");
+            for plant in PLANTS {
+                eprint!(" {}", plant.name);
+            }
+            eprintln!();
             return ExitCode::from(2);
         }
     };

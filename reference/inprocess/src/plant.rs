@@ -28,8 +28,11 @@ const fn plant(name: &'static str, put: fn(&mut Given) -> bool) -> Plant {
     Plant { name, put }
 }
 
+/// Where 32 bits end.
+const WRAP: u64 = 1 << 32;
+
 /// Each is one number, range, region or verdict that is not as it should be.
-pub const PLANTS: [Plant; 19] = [
+pub const PLANTS: [Plant; 23] = [
     plant("accepted", |given| {
         let is_refused = !given.answer.is_accepted();
         given.accept(0);
@@ -48,9 +51,17 @@ pub const PLANTS: [Plant; 19] = [
         change(given, |refusal| refusal.dimension ^= 1)
     }),
     plant("start", |given| {
-        change(given, |refusal| refusal.start ^= 1 << 32)
+        change(given, |refusal| refusal.start ^= WRAP)
     }),
     plant("end", |given| change(given, |refusal| refusal.end ^= 1)),
+    plant("high_end", |given| {
+        change(given, |refusal| refusal.end ^= WRAP)
+    }),
+    // The bytes of an 8.
+    plant("cut_bytes", |given| cut_end(given, &[8])),
+    // As the Rust has it; few of them are of a 10.
+    plant("cut_end", |given| cut_end(given, &[9, 10])),
+    plant("cut_part", |given| cut_end(given, &[10])),
     plant("limit", |given| change(given, |refusal| refusal.limit ^= 1)),
     plant("bytes", |given| match &mut given.answer.outcome {
         Outcome::Accepted { bytes_checked } => {
@@ -96,6 +107,17 @@ pub const PLANTS: [Plant; 19] = [
     }),
     plant("behind", |given| change_last(&mut given.slice)),
 ];
+
+/// Takes the remainder of an end past 32 bits, in refusals with these numbers.
+fn cut_end(given: &mut Given, numbers: &[u32]) -> bool {
+    match &mut given.answer.outcome {
+        Outcome::Refused(refusal) if numbers.contains(&refusal.number) && refusal.end >= WRAP => {
+            refusal.end %= WRAP;
+            true
+        }
+        _ => false,
+    }
+}
 
 fn change(given: &mut Given, change: fn(&mut Refusal)) -> bool {
     match &mut given.answer.outcome {

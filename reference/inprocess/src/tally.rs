@@ -8,12 +8,15 @@ use sheet_compare::REACHABLE;
 use crate::given::SLICE_TOO_SHORT;
 use crate::Answer;
 
-const NUMBERS: usize = 39;
+const NUMBERS: usize = SLICE_TOO_SHORT as usize + 1;
 const KINDS: usize = CopyKind::ALL.len();
 
 /// The numbers that calls of the copy functions do not give: a sheet's own and
 /// the region writer's.
 const NOT_OF_COPIES: [usize; 2] = [1, SLICE_TOO_SHORT as usize];
+
+/// A number that was a refusal's and is not used again.
+const RETIRED: usize = 37;
 
 /// The refusal of a texture's record, of which the Rust is not asked.
 const TEXTURE_RECORD: usize = 2;
@@ -28,7 +31,7 @@ pub struct Tally {
     empty: Counts,
     refused: [Counts; NUMBERS],
     panicked: Counts,
-    /// Writes from memory of which the Rust has two answers.
+    /// Copies on which the Rust does not agree with itself or with the copy.
     disagreed: Counts,
     /// Writes from memory on which its two answers may part.
     pub left_out: u64,
@@ -179,6 +182,7 @@ impl fmt::Display for Tally {
         for (number, counts) in self.refused.iter().enumerate().skip(1) {
             let name = format!("  refused {number}");
             match number {
+                RETIRED if counts.iter().all(|count| *count == 0) => {}
                 _ if counts.iter().all(|count| *count == 0) => {
                     writeln!(formatter, "{name:<18} never reached{}", why_never(number))?
                 }
@@ -204,7 +208,6 @@ fn cells(number: usize, counts: &Counts) -> [String; KINDS] {
 fn why_never(number: usize) -> &'static str {
     match number {
         1 => " (only a sheet can name a record that is not there)",
-        37 => " (13 is checked before)",
         _ => "",
     }
 }

@@ -2,7 +2,7 @@
 
 use std::process::{Command, Output};
 
-use copy_compare::PLANTS;
+use copy_compare::{Plant, PLANTS};
 
 fn compare(arguments: &[&str]) -> Output {
     Command::new(env!("CARGO_BIN_EXE_compare_copies"))
@@ -28,25 +28,46 @@ fn the_planner_agrees_with_the_rust() {
     );
 }
 
+/// As many random copies as have a place for a fault, some dozens of times.
+fn copies_for(plant: &Plant) -> &'static str {
+    match plant.name {
+        // Few copies end so far from a texture that must be copied whole.
+        "cut_part" => "100000",
+        _ => "10000",
+    }
+}
+
 /// Every fault is found, in whichever way the answer was asked for.
 #[test]
 fn planted_faults_are_found() {
     for plant in PLANTS {
+        let copies = copies_for(&plant);
         for at in ["1", "2", "3", "61", "62", "63"] {
             let found = verdict(&[
                 "--copies",
-                "5000",
+                copies,
+                "--threads",
+                "1",
                 "--no-sets",
                 "--plant",
                 plant.name,
                 "--plant-at",
                 at,
             ]);
-            let expected = (Some(1), "5000 copies compared, 1 differences".into());
-            assert_eq!(found, expected, "{} at {at}", plant.name);
+            let expected = format!("{copies} copies compared, 1 differences");
+            assert_eq!(found, (Some(1), expected), "{} at {at}", plant.name);
         }
     }
 }
+
+/// A write from memory has one range; between textures no bytes are counted, and
+/// between buffers there is no texture to leave.
+const WITHOUT_PLACE: [(&str, &str); 4] = [
+    ("5", "range_order"),
+    ("4", "cut_bytes"),
+    ("1", "cut_end"),
+    ("1", "cut_part"),
+];
 
 /// The same of copies of each kind by itself.
 #[test]
@@ -57,15 +78,16 @@ fn planted_faults_are_found_in_every_kind() {
                 "--kind",
                 kind,
                 "--copies",
-                "10000",
+                copies_for(&plant),
+                "--threads",
+                "1",
                 "--no-sets",
                 "--plant",
                 plant.name,
                 "--plant-at",
                 "9",
             ]);
-            // A write from memory has one range.
-            let has_place = (kind, plant.name) != ("5", "range_order");
+            let has_place = !WITHOUT_PLACE.contains(&(kind, plant.name));
             let (expected, differences) = if has_place { (1, 1) } else { (2, 0) };
             let end = format!(" copies compared, {differences} differences");
             assert_eq!(status, Some(expected), "{} of kind {kind}", plant.name);

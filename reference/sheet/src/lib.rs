@@ -2,8 +2,8 @@
 //!
 //! A [`Sheet`] is read by [`parse`], its records are turned into the objects
 //! of the copy functions by [`Objects::new`], and [`run_copy`] runs one copy; a
-//! write from memory it asks for in two ways, which must agree.
-//! [`write_listing`] puts all of that together.
+//! write from memory it asks for in two ways, which must agree, and ends that the
+//! Rust wraps it makes whole. [`write_listing`] puts all of that together.
 //!
 //! ```
 //! use copy_sheet::{parse, run_copy, Objects, Outcome, Recorder};
@@ -19,6 +19,7 @@
 
 mod agreement;
 mod bounds;
+mod ends;
 mod listing;
 mod parse;
 mod prepared;

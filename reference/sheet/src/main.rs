@@ -1,5 +1,5 @@
 //! Reads a job sheet on standard input and prints its listing, as the copy
-//! functions of wgpu-core decide it.
+//! functions of wgpu-core decide it; ends that they wrap to 32 bits are whole.
 
 use std::io::{self, BufWriter, ErrorKind, Read, Write};
 use std::process::ExitCode;

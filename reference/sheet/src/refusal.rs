@@ -33,6 +33,10 @@ pub struct Refusal {
 }
 
 impl Refusal {
+    /// The largest number of a copy's refusal. 37 is retired, and 38 is the region
+    /// writer's.
+    pub const LAST: usize = 36;
+
     pub const INDEX_PAST_SECTION: Self = Self::plain(1);
 
     pub const fn texture_record(side: Side) -> Self {
@@ -104,8 +108,9 @@ impl Refusal {
     ///
     /// # Panics
     ///
-    /// If the error is one that the copy functions do not give here:
-    /// those of external images, clears and mapped buffers.
+    /// If the error is one that the copy functions do not give here: those of
+    /// external images, clears and mapped buffers, and the second check of a level,
+    /// `InvalidMipLevel`, which 13 comes before.
     pub(crate) fn from_error(error: CommandEncoderError) -> Self {
         let CommandEncoderError::Transfer(error) = error;
         Self::from_transfer_error(error)
@@ -197,7 +202,6 @@ impl Refusal {
             } => Self::plain(36)
                 .at(src_sample_count.into())
                 .to(dst_sample_count.into()),
-            E::InvalidMipLevel { .. } => Self::plain(37),
             error => panic!("unexpected error: {error:?}"),
         }
     }
@@ -217,5 +221,21 @@ fn texture_usage_side(error: &MissingTextureUsageError) -> Side {
         Side::Source
     } else {
         Side::Destination
+    }
+}
+
+#[cfg(test)]
+mod tests {
+    use super::*;
+
+    /// It had the number 37; were it met, that would be told as a panic.
+    #[test]
+    #[should_panic(expected = "unexpected error: InvalidMipLevel")]
+    fn the_second_check_of_a_level_has_no_number() {
+        let error = TransferError::InvalidMipLevel {
+            requested: 1,
+            count: 1,
+        };
+        Refusal::from_transfer_error(error);
     }
 }

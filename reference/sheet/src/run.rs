@@ -9,7 +9,7 @@ use reference_core::{self as core, CopySide, Recorder};
 
 use crate::agreement::{self, QueueWrite};
 use crate::{
-    Buffer, BufferView, Copy, Device, Extent, MemoryView, Refusal, Sheet, Side, Texture,
+    ends, Buffer, BufferView, Copy, Device, Extent, MemoryView, Refusal, Sheet, Side, Texture,
     TextureView,
 };
 
@@ -27,8 +27,9 @@ pub enum Outcome {
     Refused(Refusal),
     /// The Rust panicked, with this message.
     Panicked(String),
-    /// `Queue::write_texture` parts from the rules in the customer's order where
-    /// it should not; this is how.
+    /// The Rust does not agree with itself, where `Queue::write_texture` parts from
+    /// the rules in the customer's order and should not; or with the copy, where a
+    /// refusal tells of another start or end. This is how.
     Disagreed(String),
 }
 
@@ -228,7 +229,7 @@ pub(crate) fn core_extent(size: &Extent) -> wgt::Extent3d {
 
 /// Runs a copy and asks for the bytes that it was checked for; a panic of the
 /// Rust is an outcome too. A write from memory is asked of `Queue::write_texture`
-/// as well.
+/// as well. The end of a 9 or 10 is whole, where the Rust's own is wrapped.
 pub fn run_copy(recorder: &mut Recorder, objects: &mut Objects, copy: &Copy) -> Outcome {
     run_copy_beside(recorder, objects, copy, &Recorder::queue_write_texture)
 }
@@ -250,7 +251,7 @@ pub(crate) fn run_copy_beside(
             Ok(()) => Outcome::Accepted {
                 bytes_checked: bytes_checked(recorder, objects, copy),
             },
-            Err(refusal) => Outcome::Refused(refusal),
+            Err(refusal) => ends::refused(refusal, copy),
         }
     });
     RUNNING_COPY.set(true);
@@ -261,7 +262,8 @@ pub(crate) fn run_copy_beside(
 
 /// Runs a copy and no more: one call of the Rust's function, or of its rules on
 /// a write from memory, after indices and records. The recorder holds the
-/// regions and ranges afterwards.
+/// regions and ranges afterwards. A refusal is as the Rust tells it: the end of a
+/// 9 or 10 is wrapped to 32 bits.
 ///
 /// # Panics
 ///

@@ -1,9 +1,10 @@
 //! What the Rust does against the standard or against expectation, each with
-//! its smallest sheet. docs/REFERENCE.md lists them.
+//! its smallest sheet. docs/DIFFERENCES.md lists them.
 
 mod common;
 
 use common::{lines, listing, sheet, sheet_on};
+use copy_sheet::{parse, record_copy, Objects, Recorder};
 
 fn check(textures: &[&str], buffers: &[&str], copy: &str, expected: &[&str]) {
     let text = sheet(textures, buffers, &[copy]);
@@ -255,4 +256,22 @@ fn range_before_usage() {
         "5 1 0 - - 0 1 0 0 0 0 1 1 1",
         &["copy 0 refused 13 0 0 1 0 1"],
     );
+}
+
+/// The Rust wraps the end to 32 bits and says 0; the listing has the sum.
+#[test]
+fn end_past_32_bits() {
+    let texture = ["0 2 1 1 1 1 1 2"];
+    let copy = "5 0 0 - - 0 0 4294967295 0 0 0 1 1 1";
+    check(
+        &texture,
+        &[],
+        copy,
+        &["copy 0 refused 9 2 1 4294967295 4294967296 1"],
+    );
+    let sheet = parse(sheet(&texture, &[], &[copy]).as_bytes()).expect("a good sheet");
+    let (mut recorder, mut objects) = (Recorder::new(), Objects::new(&sheet));
+    let recorded = record_copy(&mut recorder, &mut objects, &sheet.copies[0]);
+    let refusal = recorded.expect_err("the copy is refused");
+    assert_eq!(refusal.numbers(), [9, 2, 1, 4_294_967_295, 0, 1]);
 }

@@ -1,11 +1,12 @@
-//! Writes a fixed list of sheets with the Rust's answers.
+//! Writes a fixed list of sheets with the Rust's answers, ends of 9 and 10 made
+//! whole.
 
 use std::fs;
 use std::io::{self, Write};
 use std::path::{Path, PathBuf};
 use std::process::ExitCode;
 
-use copy_sheet::silence_copy_panics;
+use copy_sheet::{silence_copy_panics, Refusal};
 use sheet_compare::{replay_items, replay_text, Replay, REACHABLE};
 
 const USAGE: &str = "\
@@ -58,7 +59,7 @@ fn coverage(replay: &Replay) -> (String, bool) {
     let mut is_complete = true;
     for (kind, reachable) in REACHABLE {
         let (has, has_not): (Vec<usize>, Vec<usize>) =
-            (1..38).partition(|number| replay.has(kind, *number));
+            (1..=Refusal::LAST).partition(|number| replay.has(kind, *number));
         let (missing, unreachable): (Vec<usize>, Vec<usize>) = has_not
             .iter()
             .partition(|number| reachable.contains(number));

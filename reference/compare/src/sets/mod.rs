@@ -31,7 +31,7 @@ pub struct Set {
 pub const SETS: [Set; 16] = [
     Set {
         name: "points",
-        about: "bench points and the sheets of docs/DIFFERENCES.md",
+        about: "bench points, ends past 32 bits and the sheets of docs/DIFFERENCES.md",
         is_large: false,
         sheets: points,
     },
