@@ -141,8 +141,8 @@ typedef struct copy_planner_extent {
 } copy_planner_extent;
 
 /*
- * The numbers of refusals, with their details. 1 is found in job sheets only, 38 by the functions that write regions; no copy gives
- * 37.
+ * The numbers of refusals, with their details. 1 is found in job sheets only, 38 by the functions that write regions. 37 is not used, and
+ * will not be: it was the number of a second check of the level, which no copy can fail.
  */
 enum copy_planner_refusal {
     COPY_PLANNER_ACCEPTED = 0,
@@ -154,8 +154,8 @@ enum copy_planner_refusal {
     COPY_PLANNER_MISSING_TEXTURE_USAGE = 6,           /* side */
     COPY_PLANNER_BUFFER_START_OFFSET_OVERRUN = 7,     /* side, start, limit: the size of the buffer or the block of memory */
     COPY_PLANNER_BUFFER_END_OFFSET_OVERRUN = 8,       /* side, start, end: the copy's bytes, limit: as of 7 */
-    COPY_PLANNER_TEXTURE_OVERRUN = 9,                 /* all; the end is wrapped to 32 bits */
-    COPY_PLANNER_UNSUPPORTED_PARTIAL_TRANSFER = 10,   /* all; the end is wrapped to 32 bits */
+    COPY_PLANNER_TEXTURE_OVERRUN = 9,                 /* all; the end is start plus size, which may pass 32 bits */
+    COPY_PLANNER_UNSUPPORTED_PARTIAL_TRANSFER = 10,   /* all; the end is start plus size, which may pass 32 bits */
     COPY_PLANNER_INVALID_COPY_WITHIN_SAME_TEXTURE = 11, /* start, end: the two z, limit: how many layers */
     COPY_PLANNER_INVALID_TEXTURE_ASPECT = 12,
     COPY_PLANNER_INVALID_TEXTURE_MIP_LEVEL = 13,      /* start: the level, limit: how many there are */
@@ -182,7 +182,6 @@ enum copy_planner_refusal {
     COPY_PLANNER_MISSING_DOWNLEVEL_FLAGS = 34,
     COPY_PLANNER_INVALID_SAMPLE_COUNT = 35,           /* start */
     COPY_PLANNER_SAMPLE_COUNT_NOT_EQUAL = 36,         /* start, end */
-    COPY_PLANNER_INVALID_MIP_LEVEL = 37,
     COPY_PLANNER_REGION_SLICE_TOO_SHORT = 38
 };
 

@@ -1,6 +1,6 @@
 /*
- * Plans an upload of two layers, a copy that is refused and a write from memory, and lists the job sheet on standard input if any
- * argument is given.
+ * Plans an upload of two layers, a copy that is refused, a write from memory, and copies that start far outside the texture. Lists the
+ * job sheet on standard input if any argument is given.
  */
 #include "copy_planner.h"
 
@@ -21,6 +21,10 @@ static const copy_planner_texture texture = {
     COPY_PLANNER_TEXTURE_USAGE_COPY_SRC | COPY_PLANNER_TEXTURE_USAGE_COPY_DST};
 
 static const copy_planner_view view = {MIP_LEVEL, 0, 0, 0, COPY_PLANNER_ASPECT_ALL};
+
+/* As far to the right as a copy can start. Two texels from there on end at 4,294,967,297, which 32 bits do not hold. */
+static const copy_planner_view far_view = {MIP_LEVEL, UINT32_MAX, 0, 0, COPY_PLANNER_ASPECT_ALL};
+static const copy_planner_extent two_texels = {2, 1, 1};
 
 static void print_line(const char *word, const uint64_t *numbers, size_t count)
 {
@@ -85,7 +89,8 @@ static void print_plan(
         print_region(region);
 }
 
-static void print_refusal(uint32_t number, const uint64_t plan[COPY_PLANNER_BUFFER_TEXTURE_PLAN_WORDS])
+/* The words of a refusal are the same in every plan. */
+static void print_refusal(uint32_t number, const uint64_t *plan)
 {
     uint64_t numbers[] = {
         number,
@@ -132,6 +137,35 @@ static void print_memory_write(unsigned copy)
     print_answer(copy, refused, plan, ranges);
 }
 
+static void print_overruns_with_one_texture(unsigned copy)
+{
+    uint64_t plan[COPY_PLANNER_BUFFER_TEXTURE_PLAN_WORDS];
+    uint64_t ranges[COPY_PLANNER_BUFFER_TEXTURE_RANGES_WORDS];
+    uint32_t refused = copy_planner_buffer_to_texture(
+        true, 8, COPY_PLANNER_BUFFER_USAGE_COPY_SRC, 0, false, 0, false, 0, &texture, &far_view, &two_texels, plan, ranges);
+    print_answer(copy, refused, plan, ranges);
+    refused = copy_planner_texture_to_buffer(
+        true, 8, COPY_PLANNER_BUFFER_USAGE_COPY_DST, 0, false, 0, false, 0, &texture, &far_view, &two_texels, plan, ranges);
+    print_answer(copy + 1, refused, plan, ranges);
+    refused = copy_planner_memory_to_texture(
+        true, 8, 0, false, 0, false, 0, &texture, &far_view, &two_texels, plan, ranges);
+    print_answer(copy + 2, refused, plan, ranges);
+}
+
+/* Both textures are the one: first the source is far, then the destination. */
+static void print_overruns_between_textures(unsigned copy)
+{
+    const copy_planner_view *views[][2] = {{&far_view, &view}, {&view, &far_view}};
+    uint64_t plan[COPY_PLANNER_TEXTURE_PLAN_WORDS];
+    uint64_t ranges[COPY_PLANNER_TEXTURE_RANGES_WORDS];
+    for (unsigned i = 0; i < 2; i++) {
+        uint32_t refused = copy_planner_texture_to_texture(
+            true, &texture, views[i][0], &texture, views[i][1], &two_texels, plan, ranges);
+        printf("copy %u", copy + i);
+        print_refusal(refused, plan);
+    }
+}
+
 /* The first call says how long the listing is. */
 static int list_standard_input(void)
 {
@@ -158,6 +192,8 @@ int main(int argc, char **argv)
     print_upload(0, 2);
     print_upload(1, 3);
     print_memory_write(2);
+    print_overruns_with_one_texture(3);
+    print_overruns_between_textures(6);
     int status = argc > 1 ? list_standard_input() : EXIT_SUCCESS;
     /* What is still in the buffer may find the disk full. */
     if (fflush(stdout) != 0 || ferror(stdout)) {

@@ -59,8 +59,8 @@ pub fn copy_texture_to_buffer(
 /// `data_len` says how many there are, and has no bound.
 ///
 /// The copy is checked as [`copy_buffer_to_texture`] is, with the block as its source, but neither the layout's offset nor its
-/// bytes per row need be aligned. Two things are not wgpu-core's: the texture's usage is checked after its range and its aspect,
-/// not before; and regions lie in the block itself, not in a staging buffer filled from it.
+/// bytes per row need be aligned. Beside true ends ([`TransferError`]) two things are not wgpu-core's: the texture's usage is
+/// checked after its range and its aspect, not before; and regions lie in the block itself, not in a staging buffer filled from it.
 ///
 /// # Errors
 ///

@@ -59,6 +59,9 @@ macro_rules! refusals {
         $message:literal;
     )*) => {
         /// Why a copy is refused: wgpu-core's variants, and the planner's own (1 to 3 and 38).
+        ///
+        /// Where a copy ends in a texture is the true end; wgpu-core's is wrapped to 32 bits. 37 is not used: it was the number of
+        /// a second check of the level, which no copy can fail, and no other refusal will have it.
         #[derive(Clone, Copy, Debug, PartialEq, Eq, Hash)]
         #[non_exhaustive]
         pub enum TransferError {$(
@@ -74,6 +77,10 @@ macro_rules! refusals {
                 }
             }
         }
+
+        /// The numbers of the table, in its order.
+        #[cfg(test)]
+        const NUMBERS: &[u32] = &[$($number),*];
 
         impl fmt::Display for TransferError {
             fn fmt(&self, f: &mut fmt::Formatter<'_>) -> fmt::Result {
@@ -150,8 +157,8 @@ refusals! {
     9 TextureOverrun {
         /// Where the copy starts, in texels.
         start_offset: u32,
-        /// Where it ends, wrapped to 32 bits.
-        end_offset: u32,
+        /// Where it ends: start plus size, which may pass 32 bits.
+        end_offset: u64,
         /// The level's texels.
         texture_size: u32,
         /// The dimension in which it leaves.
@@ -169,8 +176,8 @@ refusals! {
         sample_count: u32,
         /// Where the copy starts, in texels.
         start_offset: u32,
-        /// Where it ends, wrapped to 32 bits.
-        end_offset: u32,
+        /// Where it ends: start plus size, which may pass 32 bits.
+        end_offset: u64,
         /// The level's texels.
         texture_size: u32,
         /// The dimension of which it takes a part.
@@ -330,16 +337,6 @@ refusals! {
     }
     "the source has {src_sample_count} sample(s) and the destination {dst_sample_count}";
 
-    /// The texture has no such level. No copy gives it, since [`InvalidTextureMipLevel`](Self::InvalidTextureMipLevel) is
-    /// checked before.
-    37 InvalidMipLevel {
-        /// The level asked for.
-        requested: u32,
-        /// The texture's levels.
-        count: u32,
-    }
-    "level {requested} was asked for where there are {count}";
-
     /// [`Plan::write_regions`](crate::Plan::write_regions) was lent too few numbers.
     38 RegionSliceTooShort
     "the regions left have more numbers than the slice";
@@ -430,7 +427,7 @@ impl Refusal {
         match self.number {
             9 => TransferError::TextureOverrun {
                 start_offset: self.start as u32,
-                end_offset: self.end as u32,
+                end_offset: self.end,
                 texture_size: self.limit as u32,
                 dimension: self.texture_dimension(),
                 side: self.copy_side(),
@@ -466,7 +463,7 @@ impl Refusal {
             format: texture.format,
             sample_count: texture.sample_count,
             start_offset: self.start as u32,
-            end_offset: self.end as u32,
+            end_offset: self.end,
             texture_size: self.limit as u32,
             dimension: self.texture_dimension(),
             side,
@@ -523,10 +520,6 @@ impl Refusal {
                 src_sample_count: self.start as u32,
                 dst_sample_count: self.end as u32,
             },
-            37 => TransferError::InvalidMipLevel {
-                requested: src.mip_level,
-                count: src.texture.mip_level_count,
-            },
             _ => unknown(self.number),
         }
     }
@@ -556,4 +549,15 @@ fn missing_flags(touches_texture: bool) -> TransferError {
     } else {
         DownlevelFlags::UnrestrictedIndexBuffer
     })
+}
+
+#[cfg(test)]
+mod tests {
+    use super::NUMBERS;
+
+    #[test]
+    fn every_number_but_37_is_used_once() {
+        let used = (1..=38).filter(|number| *number != 37);
+        assert!(NUMBERS.iter().copied().eq(used));
+    }
 }

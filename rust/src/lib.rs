@@ -1,10 +1,10 @@
 //! Plans copies between buffers and textures, and from memory into textures: whether a copy is allowed, which memory must be
 //! initialised before it, and which regions the driver is handed.
 //!
-//! The rules are those of wgpu-core 30.0.1, within the bounds that [`Buffer`] and [`Texture`] give for their fields. The planner
-//! itself is a static library, each function of which is proved to return what its definition says; this crate links it and gives
-//! it wgpu's types. No call can break it, whatever its arguments; none allocates but [`list_sheet`]. The fastest way to plan is in
-//! a [`PlanRoom`].
+//! The rules are those of wgpu-core 30.0.1, within the bounds that [`Buffer`] and [`Texture`] give for their fields, but for the
+//! end that some refusals tell ([`TransferError`]) and for the order of [`write_texture`]. The planner itself is a static library,
+//! each function of which is proved to return what its definition says; this crate links it and gives it wgpu's types. No call can
+//! break it, whatever its arguments; none allocates but [`list_sheet`]. The fastest way to plan is in a [`PlanRoom`].
 //!
 //! ```
 //! use copy_planner::*;

@@ -38,7 +38,10 @@ fn the_end_of_a_row() {
     };
     assert_eq!(upload(8, 0), "ok 0 0 0\n");
     assert_eq!(upload(9, 0), "refused 9 2 1 9 9 8\n");
-    assert_eq!(upload(4_294_967_295, 2), "refused 9 2 1 4294967295 1 8\n");
+    assert_eq!(
+        upload(4_294_967_295, 2),
+        "refused 9 2 1 4294967295 4294967297 8\n"
+    );
 }
 
 #[test]

@@ -1,8 +1,7 @@
 //! Every refusal that a copy can give, with its details.
 //!
-//! No copy gives these: 1 is a sheet's, 38 the region writer's, and 37 comes after 13, which is checked first. 16 and 17 come from
-//! the range in the texture; their second check, with the rows in the buffer, comes after it. Writes from memory have tests of their
-//! own in writes.rs.
+//! No copy gives these: 1 is a sheet's, 38 the region writer's, and 37 is not used. 16 and 17 come from the range in the texture;
+//! their second check, with the rows in the buffer, comes after it. Writes from memory have tests of their own in writes.rs.
 
 mod common;
 
@@ -289,6 +288,131 @@ fn places_in_textures() {
     );
 }
 
+/// A level that is not there is 13 in every copy; there is no second check of it.
+#[test]
+fn levels_past_the_last() {
+    let bytes = buffer(0, 64);
+    let [one, other] = [0, 1].map(|id| Texture {
+        mip_level_count: 2,
+        ..texture(id, R8Unorm, D2, [2, 2, 1])
+    });
+    let at_level = |mip_level| TexelCopyTextureInfo {
+        mip_level,
+        ..from_start(&one)
+    };
+    let size = [1, 1, 1];
+    assert_eq!(download(at_level(1), dense(&bytes, 0), size), None);
+    for level in [2, 3, u32::MAX] {
+        let past = at_level(level);
+        let refused = Some(TransferError::InvalidTextureMipLevel { level, total: 2 });
+        assert_eq!(upload(dense(&bytes, 0), past, size), refused);
+        assert_eq!(download(past, dense(&bytes, 0), size), refused);
+        assert_eq!(between(past, from_start(&other), size), refused);
+        assert_eq!(between(from_start(&other), past, size), refused);
+    }
+}
+
+/// Starts and sizes of copies, and their ends, which 32 bits do not hold. The last is the largest that there is.
+const LONG_ENDS: [(u32, u32, u64); 4] = [
+    (u32::MAX, 1, 4_294_967_296),
+    (u32::MAX, 2, 4_294_967_297),
+    (2, u32::MAX, 4_294_967_297),
+    (u32::MAX, u32::MAX, 8_589_934_590),
+];
+
+/// All of a texture, but in one dimension from `start` on for `size`.
+fn along(
+    texture: &Texture,
+    dimension: Dimension,
+    start: u32,
+    size: u32,
+) -> (TexelCopyTextureInfo<'_>, [u32; 3]) {
+    let whole = texture.size;
+    let mut origin = [0; 3];
+    let mut extent = [whole.width, whole.height, whole.depth_or_array_layers];
+    origin[dimension as usize] = start;
+    extent[dimension as usize] = size;
+    let [x, y, z] = origin;
+    (at(texture, x, y, z), extent)
+}
+
+/// Holds copies of two textures that are alike to the refusal of a start, an end and a side.
+fn refuse_long_ends(
+    [one, other]: &[Texture; 2],
+    dimension: Dimension,
+    length: u32,
+    refusal: impl Fn(u32, u64, CopySide) -> TransferError,
+) {
+    let bytes = buffer(0, 4_096);
+    for (start, size, end) in LONG_ENDS {
+        let (place, size) = along(one, dimension, start, size);
+        let [source, destination] =
+            [Source, Destination].map(|side| Some(refusal(start, end, side)));
+        assert_eq!(upload(dense(&bytes, 0), place, size), destination);
+        assert_eq!(download(place, dense(&bytes, 0), size), source);
+        assert_eq!(between(place, from_start(other), size), source);
+    }
+    // The source is checked first, so the size is one that it has.
+    let (place, size) = along(one, dimension, u32::MAX, length);
+    let end = 4_294_967_295 + u64::from(length);
+    let destination = Some(refusal(u32::MAX, end, Destination));
+    assert_eq!(between(from_start(other), place, size), destination);
+}
+
+#[test]
+fn overruns_past_32_bits() {
+    for shape in [D2, D3] {
+        let textures = [0, 1].map(|id| texture(id, R8Unorm, shape, [8, 4, 2]));
+        for (dimension, texture_size) in [(Dimension::X, 8), (Dimension::Y, 4), (Dimension::Z, 2)] {
+            refuse_long_ends(
+                &textures,
+                dimension,
+                texture_size,
+                |start_offset, end_offset, side| TransferError::TextureOverrun {
+                    start_offset,
+                    end_offset,
+                    texture_size,
+                    dimension,
+                    side,
+                },
+            );
+        }
+    }
+}
+
+#[test]
+fn parts_past_32_bits() {
+    let depths = [0, 1].map(|id| texture(id, Depth16Unorm, D2, [8, 4, 1]));
+    let samples = depths.map(|texture| Texture {
+        format: R8Unorm,
+        sample_count: 4,
+        ..texture
+    });
+    for textures in [depths, samples] {
+        let Texture {
+            format,
+            sample_count,
+            ..
+        } = textures[0];
+        for (dimension, texture_size) in [(Dimension::X, 8), (Dimension::Y, 4)] {
+            refuse_long_ends(
+                &textures,
+                dimension,
+                texture_size,
+                |start_offset, end_offset, side| TransferError::UnsupportedPartialTransfer {
+                    format,
+                    sample_count,
+                    start_offset,
+                    end_offset,
+                    texture_size,
+                    dimension,
+                    side,
+                },
+            );
+        }
+    }
+}
+
 #[test]
 fn parts_of_whole_textures() {
     let depth = texture(0, Depth16Unorm, D2, [8, 8, 1]);
@@ -551,4 +675,26 @@ fn messages() {
     assert_eq!(messages.len(), errors.len());
     let boxed: Box<dyn std::error::Error> = Box::new(offset);
     assert!(boxed.source().is_none());
+}
+
+#[test]
+fn messages_of_ends_past_32_bits() {
+    let bytes = buffer(0, 64);
+    let colour = texture(0, R8Unorm, D2, [8, 8, 1]);
+    let refused = upload(dense(&bytes, 0), at(&colour, u32::MAX, 0, 0), [2, 1, 1]);
+    assert_eq!(
+        refused.unwrap().to_string(),
+        "along X the copy goes from 4294967295 to 4294967297, and the destination texture's level has 8"
+    );
+    let stencil = texture(0, Stencil8, D2, [8, 8, 1]);
+    let refused = download(
+        at(&stencil, 0, u32::MAX, 0),
+        dense(&bytes, 0),
+        [8, u32::MAX, 1],
+    );
+    assert_eq!(
+        refused.unwrap().to_string(),
+        "along Y the copy goes from 4294967295 to 8589934590 of 8, and the source texture, Stencil8 with 1 sample(s), is copied \
+         whole or not at all"
+    );
 }

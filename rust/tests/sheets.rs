@@ -66,6 +66,36 @@ fn writes_from_memory() {
     }
 }
 
+/// Start and size have 32 bits, and their sum may have one more.
+#[test]
+fn ends_past_32_bits() {
+    let sheet = "\
+1
+1 1
+2
+0 2 8 4 2 1 1 3
+16 2 8 4 1 1 1 3
+1
+64 12
+6
+2 0 0 - - 0 0 4294967295 0 0 0 2 1 1
+3 0 0 - - 0 0 0 4294967295 0 0 1 4294967295 1
+4 0 0 0 0 4294967295 0 0 0 0 0 0 0 1 1 1
+4 0 0 0 0 0 0 0 0 4294967295 0 0 0 2 1 1
+5 64 0 - - 0 0 0 0 2 0 1 1 4294967295
+5 64 0 - - 1 0 4294967295 0 0 0 8 4 1
+";
+    let listing = "\
+copy 0 refused 9 2 1 4294967295 4294967297 8
+copy 1 refused 9 1 2 4294967295 8589934590 4
+copy 2 refused 9 1 3 4294967295 4294967296 2
+copy 3 refused 9 2 1 4294967295 4294967297 8
+copy 4 refused 9 2 3 2 4294967297 2
+copy 5 refused 10 2 1 4294967295 4294967303 8
+";
+    assert_eq!(text(list_sheet(sheet.as_bytes())), listing);
+}
+
 /// A listing many times as long as its sheet.
 #[test]
 fn a_long_listing() {

@@ -96,6 +96,28 @@ fn places_before_usage() {
     write.expect("ok 1 1 8\nt 0 0 1 2 1\nr 0 - - 0 1 4 4 0 1 4 4 1");
 }
 
+/// Start plus size, which 32 bits do not hold.
+#[test]
+fn ends_past_32_bits() {
+    let mut write = Write::into(texture(0, R8Unorm, D2, [8, 4, 2]));
+    let [x, y, z] = [u32::MAX; 3];
+    write.origin = Origin3d { x, y, z };
+    write.expect("refused 9 2 1 4294967295 4294967303 8");
+    write.size.width = u32::MAX;
+    write.expect("refused 9 2 1 4294967295 8589934590 8");
+    (write.origin.x, write.size.width) = (0, 8);
+    write.expect("refused 9 2 2 4294967295 4294967299 4");
+    (write.origin.y, write.size.depth_or_array_layers) = (0, 2);
+    write.expect("refused 9 2 3 4294967295 4294967297 2");
+
+    let mut part = Write::into(texture(0, Stencil8, D2, [8, 4, 1]));
+    part.texture.sample_count = 4;
+    part.origin = Origin3d { x, y, z: 0 };
+    part.expect("refused 10 2 1 4294967295 4294967303 8");
+    (part.origin.x, part.size.height) = (0, u32::MAX);
+    part.expect("refused 10 2 2 4294967295 8589934590 4");
+}
+
 /// Formats, samples and aspects come before the layout, and the device's fact comes last.
 #[test]
 fn layouts_between_formats_and_facts() {

@@ -254,13 +254,6 @@ fn span_of(why: &TransferError) -> [u64; 3] {
             buffer_size: limit,
             ..
         } => [start, end, limit],
-        UnalignedBufferOffset(start) | UnalignedCopySize(start) => [start, 0, 0],
-        _ => texels_of(why).map(u64::from),
-    }
-}
-
-fn texels_of(why: &TransferError) -> [u32; 3] {
-    match *why {
         TextureOverrun {
             start_offset: start,
             end_offset: end,
@@ -272,8 +265,16 @@ fn texels_of(why: &TransferError) -> [u32; 3] {
             end_offset: end,
             texture_size: limit,
             ..
-        }
-        | InvalidCopyWithinSameTexture {
+        } => [start.into(), end, limit.into()],
+        UnalignedBufferOffset(start) | UnalignedCopySize(start) => [start, 0, 0],
+        _ => short_span_of(why).map(u64::from),
+    }
+}
+
+/// Start, end and limit where each has 32 bits.
+fn short_span_of(why: &TransferError) -> [u32; 3] {
+    match *why {
+        InvalidCopyWithinSameTexture {
             src_origin_z: start,
             dst_origin_z: end,
             array_layer_count: limit,
