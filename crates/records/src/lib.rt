@@ -29,7 +29,10 @@ const MAX_SIDE: u32 = 8192;
 const MAX_SIDE_3D: u32 = 2048;
 
 // The layers of a 2D texture.
-const MAX_LAYERS: u32 = 256;
+pub const MAX_LAYERS: u32 = 256;
+
+// The most levels that a side within its limit has.
+pub const MAX_LEVELS: u32 = 14;
 
 #[derive(Clone, Copy)]
 pub struct Buffer {
@@ -240,7 +243,7 @@ fn fields_agree(t: Texture) -> bool
 }
 
 #[tactic(auto, unfolding(crate::specs::Bounds::texture_in_bounds))]
-fn texture_in_bounds(t: Texture) -> bool
+pub fn texture_in_bounds(t: Texture) -> bool
     ensures { result ≡ texture_in_bounds t }
 {
     fields_in_bounds(t) && fields_agree(t)

@@ -4,6 +4,7 @@
 ghost use Rattle.std.specs.Prelude.{◌≡◌, length, not, drop, is_ok, Ok, IfOk, OnErr, IsErr};
 ghost use Rattle.sheet_io.specs.Progress.{place_of, after_of, has_failed};
 ghost use Rattle.sheet_calls.specs.Calls.{IsPrefixLen, Wrote, Got, Sends, Receives};
+ghost use Rattle.sheet_calls.specs.Delivery.{EveryDelivery};
 
 use sheet_io::{Answer, Failure, Progress};
 use std::io::{Cursor, ErrorKind, Print, Read, Write};
@@ -157,3 +158,9 @@ pub fn say_failure<P: Print>(to: &P, error: &Error, what: &[u8]) {
         }
     }
 }
+
+// What is written of a text, whatever the calls answer: nothing runs here.
+#[tactic(auto, using(crate::proofs::WrittenParts::every_delivery))]
+pub fn deliveries()
+    ensures { EveryDelivery }
+{}

@@ -74,6 +74,11 @@ pub copy_few : (k : ℕ) → length (copy_text k) ≤ 25
 unfolding copy_text
 copy_few k = rw (length-append (99 ∷ 111 ∷ 112 ∷ 121 ∷ []) (spaced false (k ∷ []))) (omega (arith, spaced_few false (k ∷ [])))
 
+pub refusal_few : (k : ℕ) (why : TransferError) → length (refusal_text k why) ≤ 1024
+unfolding refusal_text
+refusal_few k why =
+    omega (arith, length-append (copy_text k) (line_text refused_word false (refusal_numbers why)), copy_few k, line_few refused_word false (refusal_numbers why), refusal_count why)
+
 -- ---- lines one after the other
 
 -- the lines of the slots from the i-th on

@@ -66,8 +66,10 @@ fn put_ranges(out: &mut [u8], at: usize, ranges: Ranges) -> usize
     next
 }
 
+// `copy k`, without an end.
 #[tactic(auto, using(slices::proofs::Puts::put_then), unfolding(crate::specs::Lines::copy_text))]
-fn put_copy(out: &mut Piece, k: u64) -> usize
+pub fn put_copy(out: &mut [u8], k: u64) -> usize
+    requires { 25 ≤ length out.old }
     ensures { Put out.old out.new 0 (copy_text k) result }
 {
     let a = sheet_text::put_bytes(out, 0, b"copy");
@@ -88,7 +90,9 @@ fn put_plan(out: &mut Piece, k: u64, plan: Plan, ranges: Ranges) -> usize
     put_ranges(out, b, ranges)
 }
 
-fn put_refusal(out: &mut Piece, k: u64, why: TransferError) -> usize
+// `copy k refused` and the refusal's numbers.
+pub fn put_refusal(out: &mut [u8], k: u64, why: TransferError) -> usize
+    requires { piece_bytes ≤ length out.old }
     ensures { Put out.old out.new 0 (refusal_text k why) result }
 {
     let a = put_copy(out, k);

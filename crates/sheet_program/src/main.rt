@@ -1,13 +1,18 @@
 #![tactic(auto)]
 // Reads a job sheet on standard input and writes its listing; says on standard error what could not be read or written whole.
 //
-//   sheet_program [DESCRIPTOR [LABEL [HEADING]]]
+//   sheet_program [DESCRIPTOR [LABEL [HEADING [REPORT]]]]
 //
 // DESCRIPTOR is a digit from 3 on: the status is written there in the end, and the program itself ends with 0. LABEL comes
-// before the error of a read, HEADING before the listing.
-ghost use Rattle.std.specs.Prelude.{◌≡◌, true, is_ok, OnOk, OnErr};
+// before the error of a read, HEADING before the listing. Where REPORT is `written`, the listing is of what has to be cleared before each copy
+// and what no copy's range holds; by any other word, or none, it is of plans.
+ghost use Rattle.std.specs.Prelude.{◌≡◌, true, false, is_ok, IfOk, OnErr};
 ghost use Rattle.sheet_calls.specs.Calls.{Sends};
-ghost use Rattle.sheet_program.specs.Program.{Lists, number_of, StatusFor, EveryListing};
+ghost use Rattle.sheet_calls.specs.Delivery.{Delivered};
+ghost use Rattle.sheet_listing.specs.Listing.{listing_of};
+ghost use Rattle.sheet_program.specs.Program.{written_word, report_text, report_outcome, number_of, StatusFor};
+
+mod books;
 
 use sheet_calls::Error;
 use sheet_outcome::Outcome;
@@ -43,9 +48,16 @@ impl From<Status> for u8 {
     }
 }
 
+// What is listed of a sheet: plans, or what has to be cleared and what is not written.
+#[derive(Clone, Copy)]
+pub enum Report {
+    Listing,
+    Books,
+}
+
 // Writes the listing of a sheet, part by part. What cannot be written ends it at once, so that what was written is the listing's beginning.
 fn list<W: Write, C: Clock>(output: &mut W, clock: &C, s: &[u8]) -> Result<(), Error>
-    ensures { Lists s.now (is_ok result) }
+    ensures { Delivered (listing_of s.now) (is_ok result) }
 {
     let mut out = [0u8; 65536];
     let mut st = sheet_listing::start(s);
@@ -60,32 +72,53 @@ fn list<W: Write, C: Clock>(output: &mut W, clock: &C, s: &[u8]) -> Result<(), E
     }
 }
 
-// Writes the heading and the listing.
-fn write_listing<W: Write, C: Clock>(
+// Writes a report, and answers what becomes of the sheet.
+fn write_report<W: Write, C: Clock>(
+    output: &mut W,
+    clock: &C,
+    s: &[u8],
+    report: Report,
+) -> Result<Outcome, Error>
+    ensures whole { IfOk result (λ outcome. (outcome ≡ report_outcome report s.now) × Delivered (report_text report s.now) true) }
+    ensures broken { OnErr result (Delivered (report_text report s.now) false) }
+{
+    match report {
+        Report::Listing => {
+            list(output, clock, s)?;
+            Ok(sheet_outcome::find_outcome(s))
+        }
+        Report::Books => books::write(output, clock, s),
+    }
+}
+
+// Writes the heading and the report.
+fn write_headed<W: Write, C: Clock>(
     output: &mut W,
     clock: &C,
     s: &[u8],
     heading: &[u8],
-) -> Result<(), Error>
-    ensures whole { OnOk result (Sends heading.now true × Lists s.now true) }
-    ensures status { OnErr result (StatusFor s.now heading.now Status.NotWritten) }
+    report: Report,
+) -> Result<Outcome, Error>
+    ensures whole { IfOk result (λ outcome. StatusFor report s.now heading.now (Status.Listed outcome)) }
+    ensures broken { OnErr result (StatusFor report s.now heading.now Status.NotWritten) }
 {
     sheet_calls::send(output, clock, heading)?;
-    list(output, clock, s)
+    write_report(output, clock, s, report)
 }
 
-// Writes the heading and the listing, says what could not be written whole, and answers the status.
+// Writes the heading and the report, says what could not be written whole, and answers the status.
 fn list_sheet<W: Write, P: Print, C: Clock>(
     output: &mut W,
     errors: &P,
     clock: &C,
     s: &[u8],
     heading: &[u8],
+    report: Report,
 ) -> Status
-    ensures { StatusFor s.now heading.now result }
+    ensures { StatusFor report s.now heading.now result }
 {
-    match write_listing(output, clock, s, heading) {
-        Ok(()) => Status::Listed(sheet_outcome::find_outcome(s)),
+    match write_headed(output, clock, s, heading, report) {
+        Ok(outcome) => Status::Listed(outcome),
         Err(error) => {
             sheet_calls::say_failure(errors, &error, b"plan: the listing is not written whole");
             Status::NotWritten
@@ -117,10 +150,21 @@ fn status_descriptor<E: Env>(env: &E) -> Option<u8> {
     }
 }
 
+// The report that a word asks for.
+fn report_named(word: &[u8]) -> Report
+    ensures books { word.now ≡ written_word → result ≡ Report.Books }
+    ensures listing { (word.now ≡ written_word → ⊥) → result ≡ Report.Listing }
+{
+    if word == b"written".as_slice() {
+        return Report::Books;
+    }
+    Report::Listing
+}
+
 // Writes the status to a descriptor, which std reaches by its name alone. Opened for reading too, a pipe that nobody reads from is not waited
 // for; what is in a file stays before the status.
 #[tactic(auto, using(crate::proofs::Parts::number_few))]
-fn report<F: Files>(files: &F, descriptor: Option<u8>, status: Status) {
+fn write_status<F: Files>(files: &F, descriptor: Option<u8>, status: Status) {
     let Some(digit) = descriptor else {
         return;
     };
@@ -144,20 +188,23 @@ fn main(rt: HostRuntime) {
     let label = argument(&rt, 2, &mut label_room);
     let heading = argument(&rt, 3, &mut heading_room);
     let descriptor = status_descriptor(&rt);
+    let mut report_room = [0u8; 8];
+    let report = report_named(argument(&rt, 4, &mut report_room));
     let received = sheet_calls::receive(&mut rt.stdin(), &rt, &mut sheet);
     let n = received.count;
     let status = match received.outcome {
-        Ok(()) => list_sheet(&mut rt.stdout(), &rt.stderr(), &rt, &sheet[..n], heading),
+        Ok(()) => list_sheet(
+            &mut rt.stdout(),
+            &rt.stderr(),
+            &rt,
+            &sheet[..n],
+            heading,
+            report,
+        ),
         Err(error) => {
             say_unread(&rt.stderr(), &error, label);
             Status::NotRead
         }
     };
-    report(&rt, descriptor, status);
+    write_status(&rt, descriptor, status);
 }
-
-// What is written of a listing, whatever the calls answer: nothing runs here.
-#[tactic(auto, using(crate::proofs::Parts::every_listing))]
-pub fn listing_written()
-    ensures { EveryListing }
-{}

@@ -1,0 +1,10 @@
+pub mod Lists
+pub mod Updates
+pub mod Created
+pub mod Answers
+pub mod History
+pub mod Clearing
+pub mod Filled
+pub mod Numbers
+pub mod LayerFour
+pub mod Fitting
