@@ -383,7 +383,7 @@ prove_and_run() {
 
 # Whether a folder has the sources of wgpu-core that reference/ is built from.
 has_sources() {
-    for source in command/transfer.rs init_tracker/texture.rs device/queue.rs; do
+    for source in command/transfer.rs init_tracker/mod.rs init_tracker/texture.rs init_tracker/buffer.rs device/queue.rs; do
         [ -f "$1/$source" ] || return 1
     done
 }

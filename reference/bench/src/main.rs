@@ -1,5 +1,7 @@
-//! Times the planner and the Rust on the same copies, in turn, in one process.
+//! Times the planner and the Rust on the same copies, in turn, in one process; and
+//! its books and plain C on the same ranges.
 
+mod books;
 mod inputs;
 mod layers;
 mod listing;
@@ -42,6 +44,7 @@ fn main() {
     let name = format!("ask_{MOST_LAYERS}_layers");
     races.push(copy_race(name, "one copy, buffer to texture".into(), most));
     races.push(layers::write_race(&plans[LAYERS.len() - 1]));
+    races.extend(books::races());
     races.push(listing::race(&sheet));
     let ratios = races.len();
     races.extend(plans.iter().map(layers::linearity_race));
@@ -70,6 +73,11 @@ fn print_setting() {
          are used again"
     );
     println!("a call of a copy is timed with the reading of all its ranges and regions");
+    println!(
+        "book_*: the planner over plain C; {}, {}; both by a call that nothing is inlined into",
+        env!("CC_VERSION"),
+        env!("CC_FLAGS")
+    );
     println!(
         "memory_to_texture: the Rust is the body of Queue::write_texture, which validates, tracks \
          and makes regions of a staging buffer, with nothing staged; its rules alone are the same \

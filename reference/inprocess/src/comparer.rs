@@ -16,9 +16,29 @@ use crate::{c, rust, Given, Plant, Tally};
 /// Differences shown whole; more are counted only.
 const SHOWN: u64 = 10;
 
+/// So many differences that more need not be looked for.
+const MANY: u64 = 1_000;
+
 /// Shows the first differences of all threads.
 #[derive(Debug, Default)]
 pub struct Reports(Mutex<u64>);
+
+impl Reports {
+    /// Shows a difference, told from its number, if it is among the first.
+    pub(crate) fn show(&self, tell: impl FnOnce(u64) -> String) {
+        let mut shown = self.0.lock().expect("no thread panics here");
+        *shown += 1;
+        if *shown <= SHOWN {
+            // Whoever read it has seen enough of it.
+            let _ = io::stdout().write_all(tell(*shown).as_bytes());
+        }
+    }
+
+    /// Whether there are so many that more need not be looked for.
+    pub(crate) fn are_many(&self) -> bool {
+        *self.0.lock().expect("no thread panics here") >= MANY
+    }
+}
 
 /// The ways into the planner.
 #[derive(Clone, Copy)]
@@ -166,22 +186,18 @@ impl<'a> Comparer<'a> {
 
     /// Shows the copy with its records, and both answers.
     fn report(&self, head: &str, sheet: &Sheet, copy: &Copy) {
-        let mut shown = self.reports.0.lock().expect("no thread panics here");
-        *shown += 1;
-        if *shown > SHOWN {
-            return;
-        }
-        let single = Single::new(sheet, copy);
-        let listed = |answer: &Answer| single.listed(answer, copy);
-        let mut text = format!("difference {shown}: {head}\nsheet\n");
-        text += &String::from_utf8_lossy(&sheet_text(&single.sheet));
-        text += &format!("Rust\n{}", listed(&self.expected));
-        text += &format!("planner\n{}", listed(&self.given.answer));
-        if self.given.answer == self.expected {
-            text += &format!("slice\n{:?}\n", self.given.slice);
-        }
-        // Whoever read it has seen enough of it.
-        let _ = io::stdout().write_all(text.as_bytes());
+        self.reports.show(|number| {
+            let single = Single::new(sheet, copy);
+            let listed = |answer: &Answer| single.listed(answer, copy);
+            let mut text = format!("difference {number}: {head}\nsheet\n");
+            text += &String::from_utf8_lossy(&sheet_text(&single.sheet));
+            text += &format!("Rust\n{}", listed(&self.expected));
+            text += &format!("planner\n{}", listed(&self.given.answer));
+            if self.given.answer == self.expected {
+                text += &format!("slice\n{:?}\n", self.given.slice);
+            }
+            text
+        });
     }
 }
 
@@ -244,7 +260,7 @@ fn indices(copy: &mut Copy) -> [Index<'_>; 2] {
 
 /// Leads indices past their sections back into them; false if a section is
 /// empty.
-fn lead_back(sheet: &Sheet, copy: &mut Copy) -> bool {
+pub(crate) fn lead_back(sheet: &Sheet, copy: &mut Copy) -> bool {
     indices(copy).into_iter().all(|index| {
         let (index, length) = match index {
             Index::Texture(index) => (index, sheet.textures.len() as u32),

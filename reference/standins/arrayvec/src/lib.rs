@@ -1,7 +1,7 @@
 //! Stand-in for `arrayvec`: a `Vec` that holds at most `CAP` elements.
 //!
-//! The trackers of this workspace hand out no barriers, so the lists built
-//! with it stay empty and nothing is allocated.
+//! The stand-ins for trackers of resource states hand out no barriers, so the
+//! lists that the copy functions build stay empty and nothing is allocated.
 
 use std::ops::{Deref, DerefMut};
 
