@@ -1,11 +1,13 @@
 /*
  * The copy planner: whether a copy between buffers and textures, or from memory into a texture, is allowed, which of their memory must
- * be initialised before it, and which regions the driver is handed. Link with libcopy_planner.a.
+ * be initialised before it, and which regions the driver is handed. Also a book of what has been written of a texture. Link with
+ * libcopy_planner.a.
  *
  * No function can be broken by the values it is given: what is wrong with a copy is said by its refusal. A caller owes three things.
- * No pointer is null, not even of an array of length 0; arrays are as long as they are declared; and those that a function writes overlap
- * with none of its other arrays.
- * Nothing is kept between calls and nothing is allocated, so calls may be made from any thread.
+ * No pointer is null, not even of an array of length 0; arrays are as long as they are declared; and what a function writes, be it an
+ * array, a book or a count, overlaps with nothing else that it is lent.
+ * Nothing is kept between calls and nothing is allocated, so calls may be made from any thread. Plans and books are the caller's: while
+ * one call changes a plan or a book, no other may use it.
  */
 #ifndef COPY_PLANNER_H
 #define COPY_PLANNER_H
@@ -31,6 +33,14 @@ extern "C" {
 
 /* Words of one range. */
 #define COPY_PLANNER_RANGE_WORDS 3
+
+/*
+ * The marks of a book, those of each of its levels, and the numbers of a place. No range has more layers than a level has marks, so
+ * COPY_PLANNER_BOOK_LAYERS * COPY_PLANNER_PLACE_NUMBERS numbers, 512, are room for the places of any.
+ */
+#define COPY_PLANNER_BOOK_MARKS 3584
+#define COPY_PLANNER_BOOK_LAYERS 256
+#define COPY_PLANNER_PLACE_NUMBERS 2
 
 /* What a region has for bytes per row and rows per image where the copy left them out. */
 #define COPY_PLANNER_ABSENT UINT64_MAX
@@ -141,8 +151,22 @@ typedef struct copy_planner_extent {
 } copy_planner_extent;
 
 /*
- * The numbers of refusals, with their details. 1 is found in job sheets only, 38 by the functions that write regions. 37 is not used, and
- * will not be: it was the number of a second check of the level, which no copy can fail.
+ * What has been written of a texture: its levels, its layers (in 1D and 3D one, which is the whole level) and a mark for each level and
+ * layer, that of level l and layer z at l * COPY_PLANNER_BOOK_LAYERS + z. A mark is 0 where nothing is written, else any other byte; the
+ * planner sets 1. It stands for the whole level and layer, all aspects and planes together.
+ *
+ * A book may be copied, kept and read like any other value, and its bytes may be anything: no call can be broken by them. One that
+ * counts more levels or layers than there are marks for is refused with 39, and nothing of it is written or filled.
+ */
+typedef struct copy_planner_book {
+    uint32_t mip_level_count;
+    uint32_t array_layer_count;
+    uint8_t marks[COPY_PLANNER_BOOK_MARKS];
+} copy_planner_book;
+
+/*
+ * The numbers of refusals, with their details. 1 is found in job sheets only, 38 by the functions that write regions or places, 39 by
+ * those of books. 37 is not used, and will not be: it was the number of a second check of the level, which no copy can fail.
  */
 enum copy_planner_refusal {
     COPY_PLANNER_ACCEPTED = 0,
@@ -182,7 +206,8 @@ enum copy_planner_refusal {
     COPY_PLANNER_MISSING_DOWNLEVEL_FLAGS = 34,
     COPY_PLANNER_INVALID_SAMPLE_COUNT = 35,           /* start */
     COPY_PLANNER_SAMPLE_COUNT_NOT_EQUAL = 36,         /* start, end */
-    COPY_PLANNER_REGION_SLICE_TOO_SHORT = 38
+    COPY_PLANNER_REGION_SLICE_TOO_SHORT = 38,         /* also of places */
+    COPY_PLANNER_INVALID_BOOK_RANGE = 39
 };
 
 /* The words of a plan that are a caller's to read. All others are the planner's own. */
@@ -347,6 +372,60 @@ uint32_t copy_planner_write_texture_copies(
     uint64_t plan[COPY_PLANNER_TEXTURE_PLAN_WORDS],
     uint64_t *regions,
     size_t len);
+
+/*
+ * A book of a texture of which nothing is written. Returns 0, or 2 where the texture's record breaks its bounds; then the book has no
+ * level and no layer. All of the book is written, and none is read before.
+ */
+uint32_t copy_planner_new_book(const copy_planner_texture *texture, copy_planner_book *book);
+
+/*
+ * Applies a range of an accepted copy to the book of its texture, at the level of the view on the range's side.
+ *
+ * A copy's ranges are applied in the order of its ranges words, between textures the source's first, and each to the book of its own
+ * texture; within one texture both are applied to the one book. Of a copy with a buffer or from memory only the first range is the
+ * texture's: the others are bytes, and no book's. A range goes from its first layer up to, not including, its end.
+ *
+ * Returns 0, writes the places that have to be cleared BEFORE the copy is executed, puts how many they are into count, and marks every
+ * layer of the range; a layer that is cleared is written too. The places are the range's layers without a mark where it needs memory,
+ * and none where the copy fills it. They are written from the start of places on, which has len numbers: level and layer of each,
+ * layers rising. Numbers past them are not changed.
+ *
+ * Ranges are believed. As in wgpu-core, a copy of depth 2 or more between a 3D texture and a 2D one may report its destination as filled
+ * though its regions do not write all of it; then the book has the rest as written too.
+ *
+ * A range of kind 0 is none: it clears and marks nothing and is not refused, whatever else it is given. So the ranges of a refused copy
+ * may be applied. A kind above 2 is taken for 2.
+ *
+ * A refusal changes nothing but count, which is 0. It is, in this order:
+ * 39, where the book counts more levels or layers than there are marks for, the level is not one of the book's, or the range's end lies
+ * below its start or above the book's layers;
+ * 38, where len is less than the places that would be written times the numbers of each.
+ */
+uint32_t copy_planner_update_book(
+    copy_planner_book *book,
+    uint32_t mip_level,
+    const uint64_t range[COPY_PLANNER_RANGE_WORDS],
+    uint64_t *places,
+    size_t len,
+    uint64_t *count);
+
+/*
+ * The layers of a level that are not written, as places, and how many they are: what copy_planner_update_book would have cleared before
+ * a copy that reads the whole level. It returns and writes the same, but marks nothing.
+ */
+uint32_t copy_planner_book_missing(
+    const copy_planner_book *book,
+    uint32_t mip_level,
+    uint64_t *places,
+    size_t len,
+    uint64_t *count);
+
+/* Whether a level and layer is one of the book's and is written. */
+bool copy_planner_book_is_written(const copy_planner_book *book, uint32_t mip_level, uint32_t layer);
+
+/* Whether every level and layer of the book is written. One without a level or a layer is of no texture, and is not filled. */
+bool copy_planner_book_is_filled(const copy_planner_book *book);
 
 /*
  * Puts the listing of a job sheet into out, or as much of its beginning as there is room for, and returns the length of the whole

@@ -1,6 +1,6 @@
 /*
- * Plans an upload of two layers, a copy that is refused, a write from memory, and copies that start far outside the texture. Lists the
- * job sheet on standard input if any argument is given.
+ * Plans an upload of two layers, a copy that is refused, a write from memory, and copies that start far outside the texture. Keeps a book
+ * of the texture over three uploads. Lists the job sheet on standard input if any argument is given.
  */
 #include "copy_planner.h"
 
@@ -166,6 +166,85 @@ static void print_overruns_between_textures(unsigned copy)
     }
 }
 
+/* Texture, level and layer of each place, in a line that begins with the word. */
+static void print_places(const char *word, const uint64_t *places, uint64_t count)
+{
+    for (uint64_t i = 0; i < count; i++) {
+        const uint64_t *place = places + i * COPY_PLANNER_PLACE_NUMBERS;
+        uint64_t numbers[] = {TEXTURE_INDEX, place[0], place[1]};
+        print_line(word, numbers, 3);
+    }
+}
+
+/*
+ * Copies from a buffer into the texture from a layer on, and prints what has to be cleared before that, and what is not yet written
+ * after it. Of the copy's ranges only the first is the texture's. A refused copy has none, and changes nothing of the book.
+ */
+static void print_upload_with_book(
+    unsigned copy,
+    uint32_t first_layer,
+    const copy_planner_extent *size,
+    copy_planner_book *book)
+{
+    copy_planner_view from_layer = {MIP_LEVEL, 0, 0, first_layer, COPY_PLANNER_ASPECT_ALL};
+    uint64_t plan[COPY_PLANNER_BUFFER_TEXTURE_PLAN_WORDS];
+    uint64_t ranges[COPY_PLANNER_BUFFER_TEXTURE_RANGES_WORDS];
+    uint64_t places[COPY_PLANNER_BOOK_LAYERS * COPY_PLANNER_PLACE_NUMBERS];
+    size_t len = sizeof places / sizeof places[0];
+    uint64_t count;
+    uint32_t refused = copy_planner_buffer_to_texture(
+        true, 4096, COPY_PLANNER_BUFFER_USAGE_COPY_SRC, 0, true, 256, true, 8, &texture, &from_layer, size, plan, ranges);
+    /* What has to be cleared is asked for before any region is handed out. A refused copy has no range, and needs nothing. */
+    if (copy_planner_update_book(book, MIP_LEVEL, ranges, places, len, &count) != COPY_PLANNER_ACCEPTED)
+        return;
+    print_places("clear", places, count);
+    print_answer(copy, refused, plan, ranges);
+    if (copy_planner_book_missing(book, MIP_LEVEL, places, len, &count) != COPY_PLANNER_ACCEPTED)
+        return;
+    print_places("missing", places, count);
+    printf("filled %d\n", copy_planner_book_is_filled(book));
+}
+
+/* A corner of layer 1, which is cleared before it; a third layer, which the texture does not have; and all of layer 0. */
+static void print_uploads_with_book(unsigned copy)
+{
+    const copy_planner_extent corner = {4, 4, 1};
+    const copy_planner_extent layer = {8, 8, 1};
+    copy_planner_book book;
+    if (copy_planner_new_book(&texture, &book) != COPY_PLANNER_ACCEPTED)
+        return;
+    print_upload_with_book(copy, 1, &corner, &book);
+    print_upload_with_book(copy + 1, 2, &layer, &book);
+    print_upload_with_book(copy + 2, 0, &layer, &book);
+}
+
+/*
+ * Copies layer 0 onto layer 1 and prints what has to be cleared before that. Both ranges belong to the one texture's book, and are applied in
+ * their order: the source's first, at its level, then the destination's at its own.
+ */
+static void print_copy_with_book(unsigned copy)
+{
+    const copy_planner_view onto = {MIP_LEVEL, 0, 0, 1, COPY_PLANNER_ASPECT_ALL};
+    const copy_planner_extent layer = {8, 8, 1};
+    const uint32_t levels[] = {view.mip_level, onto.mip_level};
+    uint64_t plan[COPY_PLANNER_TEXTURE_PLAN_WORDS];
+    uint64_t ranges[COPY_PLANNER_TEXTURE_RANGES_WORDS];
+    uint64_t places[COPY_PLANNER_BOOK_LAYERS * COPY_PLANNER_PLACE_NUMBERS];
+    uint64_t count;
+    copy_planner_book book;
+    if (copy_planner_new_book(&texture, &book) != COPY_PLANNER_ACCEPTED ||
+        copy_planner_texture_to_texture(true, &texture, &view, &texture, &onto, &layer, plan, ranges) != COPY_PLANNER_ACCEPTED)
+        return;
+    for (size_t i = 0; i < 2; i++) {
+        if (copy_planner_update_book(
+                &book, levels[i], ranges + i * COPY_PLANNER_RANGE_WORDS, places, sizeof places / sizeof places[0], &count) !=
+            COPY_PLANNER_ACCEPTED)
+            return;
+        print_places("clear", places, count);
+    }
+    printf("copy %u ok\nfilled %d\n", copy, copy_planner_book_is_filled(&book));
+}
+
 /* The first call says how long the listing is. */
 static int list_standard_input(void)
 {
@@ -194,6 +273,8 @@ int main(int argc, char **argv)
     print_memory_write(2);
     print_overruns_with_one_texture(3);
     print_overruns_between_textures(6);
+    print_uploads_with_book(8);
+    print_copy_with_book(11);
     int status = argc > 1 ? list_standard_input() : EXIT_SUCCESS;
     /* What is still in the buffer may find the disk full. */
     if (fflush(stdout) != 0 || ferror(stdout)) {

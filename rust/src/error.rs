@@ -61,7 +61,8 @@ macro_rules! refusals {
         /// Why a copy is refused: wgpu-core's variants, and the planner's own (1 to 3 and 38).
         ///
         /// Where a copy ends in a texture is the true end; wgpu-core's is wrapped to 32 bits. 37 is not used: it was the number of
-        /// a second check of the level, which no copy can fail, and no other refusal will have it.
+        /// a second check of the level, which no copy can fail, and no other refusal will have it. 39 is a
+        /// [`BookError`](crate::BookError)'s.
         #[derive(Clone, Copy, Debug, PartialEq, Eq, Hash)]
         #[non_exhaustive]
         pub enum TransferError {$(

@@ -23,6 +23,22 @@ pub type TexturePlan = [u64; 18];
 /// Kind (0 for no range), start, end.
 pub type RangeRow = [u64; 3];
 
+/// The layers of a level that a book has marks for.
+pub(crate) const BOOK_LAYERS: usize = 256;
+
+/// The marks of a book, level after level.
+pub(crate) const BOOK_MARKS: usize = 14 * BOOK_LAYERS;
+
+/// The levels and layers of a texture, and a mark for each that any texture has: 0 where nothing is written. Every byte is one that the
+/// planner takes.
+#[derive(Clone, PartialEq, Eq)]
+#[repr(C)]
+pub(crate) struct BookRecord {
+    pub(crate) mip_level_count: u32,
+    pub(crate) array_layer_count: u32,
+    pub(crate) marks: [u8; BOOK_MARKS],
+}
+
 /// Plans a copy between a buffer and a texture.
 pub(crate) type BufferAndTexture = unsafe extern "C" fn(
     depth_texture_and_buffer_copies: bool,
@@ -162,6 +178,40 @@ extern "C" {
         regions: *mut u64,
         len: usize,
     ) -> u32;
+}
+
+// 0, or the number of a refusal. A new book is all written, and none is read before. `count` is how many places are written from
+// `places` on, two numbers each; under a refusal it is 0, and the book and the `len` numbers from `places` on are not changed.
+extern "C" {
+    pub(crate) fn copy_planner_new_book(
+        texture: &Texture,
+        book: &mut MaybeUninit<BookRecord>,
+    ) -> u32;
+
+    pub(crate) fn copy_planner_update_book(
+        book: &mut BookRecord,
+        mip_level: u32,
+        range: &RangeRow,
+        places: *mut u64,
+        len: usize,
+        count: &mut u64,
+    ) -> u32;
+
+    pub(crate) fn copy_planner_book_missing(
+        book: &BookRecord,
+        mip_level: u32,
+        places: *mut u64,
+        len: usize,
+        count: &mut u64,
+    ) -> u32;
+
+    pub(crate) fn copy_planner_book_is_written(
+        book: &BookRecord,
+        mip_level: u32,
+        layer: u32,
+    ) -> bool;
+
+    pub(crate) fn copy_planner_book_is_filled(book: &BookRecord) -> bool;
 }
 
 extern "C" {

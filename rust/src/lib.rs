@@ -6,6 +6,9 @@
 //! each function of which is proved to return what its definition says; this crate links it and gives it wgpu's types. No call can
 //! break it, whatever its arguments; none allocates but [`list_sheet`]. The fastest way to plan is in a [`PlanRoom`].
 //!
+//! A [`Book`] keeps what has been written of a texture, from the ranges of its plans: it says which levels and layers must be cleared
+//! before a copy, and which no range has held.
+//!
 //! ```
 //! use copy_planner::*;
 //!
@@ -65,6 +68,7 @@
 #![deny(unsafe_op_in_unsafe_fn)]
 #![warn(missing_docs)]
 
+mod book;
 mod copies;
 mod error;
 mod ffi;
@@ -74,6 +78,7 @@ mod regions;
 mod resources;
 mod sheet;
 
+pub use book::{Book, BookError, Place, PlaceRoom, Places};
 pub use copies::{
     copy_buffer_to_buffer, copy_buffer_to_texture, copy_texture_to_buffer, copy_texture_to_texture,
     write_texture,

@@ -55,7 +55,7 @@ impl<R: Region> Plan<R> {
     }
 
     /// The memory that must be initialised before the copy, or that the copy itself initialises, in wgpu-core's order. Asking for
-    /// regions does not change it.
+    /// regions does not change it. A [`Book`](crate::Book) takes these ranges, and says which layers are to be cleared.
     #[inline]
     pub fn ranges(&self) -> Ranges<'_> {
         Ranges {

@@ -8,35 +8,6 @@ use copy_planner::*;
 
 const JOBS: usize = 20_000;
 
-/// SplitMix64.
-struct Random(u64);
-
-impl Random {
-    fn word(&mut self) -> u64 {
-        self.0 = self.0.wrapping_add(0x9e37_79b9_7f4a_7c15);
-        let mut z = self.0;
-        z = (z ^ (z >> 30)).wrapping_mul(0xbf58_476d_1ce4_e5b9);
-        z = (z ^ (z >> 27)).wrapping_mul(0x94d0_49bb_1331_11eb);
-        z ^ (z >> 31)
-    }
-
-    fn below(&mut self, end: u64) -> u64 {
-        self.word() % end
-    }
-
-    fn pick<T: Copy>(&mut self, values: &[T]) -> T {
-        values[self.below(values.len() as u64) as usize]
-    }
-
-    /// The first value most of the time.
-    fn mostly<T: Copy>(&mut self, values: &[T]) -> T {
-        match self.below(8) {
-            0 => self.pick(values),
-            _ => values[0],
-        }
-    }
-}
-
 /// One part of a texture, by its index.
 #[derive(Clone, Copy)]
 struct View {

@@ -105,6 +105,35 @@ pub fn strided(
     TexelCopyBufferInfo { buffer, layout }
 }
 
+/// SplitMix64.
+pub struct Random(pub u64);
+
+impl Random {
+    pub fn word(&mut self) -> u64 {
+        self.0 = self.0.wrapping_add(0x9e37_79b9_7f4a_7c15);
+        let mut z = self.0;
+        z = (z ^ (z >> 30)).wrapping_mul(0xbf58_476d_1ce4_e5b9);
+        z = (z ^ (z >> 27)).wrapping_mul(0x94d0_49bb_1331_11eb);
+        z ^ (z >> 31)
+    }
+
+    pub fn below(&mut self, end: u64) -> u64 {
+        self.word() % end
+    }
+
+    pub fn pick<T: Copy>(&mut self, values: &[T]) -> T {
+        values[self.below(values.len() as u64) as usize]
+    }
+
+    /// The first value most of the time.
+    pub fn mostly<T: Copy>(&mut self, values: &[T]) -> T {
+        match self.below(8) {
+            0 => self.pick(values),
+            _ => values[0],
+        }
+    }
+}
+
 /// A region as its numbers.
 pub trait Numbered: Region + PartialEq + std::fmt::Debug {
     fn numbers(&self) -> Vec<u64>;
