@@ -3,7 +3,7 @@
 //! Formats and dimensions that the crate has no name for can be asked here, and
 //! every word that the planner writes is seen.
 
-use copy_sheet::{BufferView, Copy, Extent, MemoryView, Refusal, Sheet, Texture, TextureView};
+use copy_sheet::{BufferView, Copy, Extent, MemoryView, Refusal, Sheet, TextureView};
 
 use crate::answer::{buffer_resource, range_numbers, texture_resource, Resource, MEMORY};
 use crate::given::{Given, GUARD, MOST_REGIONS};
@@ -326,19 +326,7 @@ fn between_textures(
 }
 
 fn texture_words(sheet: &Sheet, view: &TextureView) -> [u32; 8] {
-    let Texture {
-        format,
-        dimension,
-        width,
-        height,
-        depth,
-        levels,
-        samples,
-        usage,
-    } = sheet.textures[view.texture as usize];
-    [
-        format, dimension, width, height, depth, levels, samples, usage,
-    ]
+    sheet.textures[view.texture as usize].words()
 }
 
 fn view_words(view: &TextureView) -> [u32; 5] {

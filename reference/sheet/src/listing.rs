@@ -365,16 +365,8 @@ pub fn sheet_text(sheet: &Sheet) -> Vec<u8> {
     );
     lines.record(sheet.textures.len() as u64, &[]);
     for texture in &sheet.textures {
-        let rest = [
-            texture.dimension,
-            texture.width,
-            texture.height,
-            texture.depth,
-            texture.levels,
-            texture.samples,
-            texture.usage,
-        ];
-        lines.record(texture.format.into(), &rest.map(u64::from));
+        let [format, rest @ ..] = texture.words().map(u64::from);
+        lines.record(format, &rest);
     }
     lines.record(sheet.buffers.len() as u64, &[]);
     for buffer in &sheet.buffers {

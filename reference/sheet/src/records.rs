@@ -24,6 +24,23 @@ pub struct Texture {
 impl Texture {
     pub const COPY_SRC: u32 = 1;
     pub const COPY_DST: u32 = 2;
+
+    /// The fields in order, as a C caller lends them.
+    pub fn words(&self) -> [u32; 8] {
+        let Self {
+            format,
+            dimension,
+            width,
+            height,
+            depth,
+            levels,
+            samples,
+            usage,
+        } = *self;
+        [
+            format, dimension, width, height, depth, levels, samples, usage,
+        ]
+    }
 }
 
 /// A buffer record; nothing is promised about its fields.

@@ -80,7 +80,7 @@ impl<'a> BookComparer<'a> {
     pub(super) fn create(&mut self, name: &dyn Display, texture: &Texture) -> Option<Book> {
         let (number, expected) = model::created(texture);
         let mut book = Book::with(GUARD as u32, GUARD as u32, GUARD as u8);
-        let given = (self.functions.new_book)(&words(texture), &mut book);
+        let given = (self.functions.new_book)(&texture.words(), &mut book);
         self.tally.records += 1;
         self.tally.ill_records += u64::from(number != 0);
         if (given, book) != (number, expected) {
@@ -263,20 +263,4 @@ fn around(count: u32, bound: u32) -> Vec<u32> {
     numbers.extend([count.wrapping_sub(1), count, count.wrapping_add(1)]);
     numbers.extend([bound - 1, bound, u32::MAX]);
     numbers
-}
-
-fn words(texture: &Texture) -> [u32; 8] {
-    let Texture {
-        format,
-        dimension,
-        width,
-        height,
-        depth,
-        levels,
-        samples,
-        usage,
-    } = *texture;
-    [
-        format, dimension, width, height, depth, levels, samples, usage,
-    ]
 }
