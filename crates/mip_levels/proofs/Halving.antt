@@ -1,13 +1,13 @@
 -- The laws of levels: halving is division by a power of two, and counting halvings compares with one.
 -- Assumes nothing.
 use mathlib.Core.Path.{◌≡◌, refl, ◌∙◌}
-use mathlib.Core.Bool.{Bool, true, false, not, ◌&&◌}
+use mathlib.Core.Bool.{Bool, true, false}
 use mathlib.Core.Logic.{◌↔◌, ◌⊎◌, inl, inr}
-use Prim.Native.Nat.{ℕ, zero, suc, ◌-◌, ◌*◌, ◌/◌, ◌^◌, ◌≤◌, ◌<◌}
+use Prim.Native.Nat.{ℕ, zero, suc, ◌*◌, ◌/◌, ◌^◌, ◌≤◌, ◌<◌}
 use native.Mathlib.Omega.{arith}
-use native.Mathlib.Nat.{div-div-eq-div-mul, div-eq_of_lt, div-le_self, div-one, eq-zero-or-pos, le-div_iff_mul-le, lt_of_lt_of_le, one-le-pow, pow-le-pow_right, pos_of_ne-zero, pow-suc, pow-zero, zero-div}
-use borrow.Author.Tests.{leb-true, leb-false, ltb-true, ltb-false, eqb-true, eqb-false, le-leb, lt-leb}
-use lib.Dec.{leb, ltb, eqb}
+use native.Mathlib.Nat.{div-div-eq-div-mul, div-eq_of_lt, div-le_self, div-one, eq-zero-or-pos, le-div_iff_mul-le, lt_of_lt_of_le, one-le-pow, pow-le-pow_right, pow-suc, pow-zero}
+use borrow.Author.Tests.{leb-true, leb-false, ltb-true, ltb-false}
+use lib.Dec.{leb, ltb}
 use Rattle.conditions.specs.Conditions.{pick}
 use Rattle.mip_levels.specs.Level.{halved, side_at, halvings, max_mip_levels}
 use Rattle.mip_levels.specs.Laws.{LevelLaws}
@@ -93,8 +93,6 @@ few n digits h some = beyond n digits some (halved_is n digits ∙ div-eq_of_lt 
 pub level_laws : LevelLaws
 level_laws = record { halves = halved_is; some = some; fewer = fewer; counted = counted; few = few }
 
--- ---- what the code tests
-
 -- nothing is left of a side past its digits
 pub past : (n level : ℕ) → n < 2 ^ 32 → 32 ≤ level → side_at n level ≡ 1
 unfolding side_at
@@ -102,40 +100,3 @@ past n level h l =
     let high : 2 ^ 32 ≤ 2 ^ level = pow-le-pow_right (omega arith) l in
     let none : n / 2 ^ level ≡ 0 = div-eq_of_lt (lt_of_lt_of_le h high) in
     omega (arith, halved_is n level)
-
--- the test that a count of levels is allowed
-abbrev Allowed : ℕ → ℕ → Bool
-Allowed n levels = leb 1 levels && leb levels (max_mip_levels n)
-
-allowed : (n levels : ℕ) → 1 ≤ levels → levels ≤ max_mip_levels n → true ≡ Allowed n levels
-allowed n levels some h = rw (le-leb 1 levels some, le-leb levels (max_mip_levels n) h)
-
-not_allowed : (n levels : ℕ) → 1 ≤ levels → max_mip_levels n < levels → false ≡ Allowed n levels
-not_allowed n levels some h = rw (le-leb 1 levels some, lt-leb levels (max_mip_levels n) h)
-
-at_least_one : (n : ℕ) → 1 ≤ max_mip_levels n
-unfolding max_mip_levels
-at_least_one n = omega arith
-
-pub one_level : (n levels : ℕ) → levels < 2 → eqb levels 1 ≡ Allowed n levels
-one_level n zero h = refl
-one_level n (suc zero) h = allowed n 1 (omega arith) (at_least_one n)
-one_level n (suc (suc levels)) h = absurd (omega arith)
-
-pub too_many : (n levels : ℕ) → n < 2 ^ 32 → 32 < levels → false ≡ Allowed n levels
-too_many n levels h l = let m = few n 32 h (omega arith) in not_allowed n levels (omega arith) (omega arith)
-
-pub last_level : (n levels : ℕ) → 2 ≤ levels → not (eqb (n / 2 ^ (levels - 1)) 0) ≡ Allowed n levels
-last_level n levels h = go (eqb (n / 2 ^ (levels - 1)) 0) refl (eq-zero-or-pos n)
-  where
-    go : (t : Bool) → eqb (n / 2 ^ (levels - 1)) 0 ≡ t → (n ≡ 0) ⊎ (0 < n) → not t ≡ Allowed n levels
-    go true e c =
-        let m = beyond n (levels - 1) (omega arith) (halved_is n (levels - 1) ∙ eqb-true _ _ e) in
-        not_allowed n levels (omega arith) (omega arith)
-    go false e (inl z) =
-        let none : n / 2 ^ (levels - 1) ≡ 0 = rw z (zero-div (2 ^ (levels - 1))) in
-        absurd (eqb-false _ _ e none)
-    go false e (inr pos) =
-        let some : 0 < n / 2 ^ (levels - 1) = pos_of_ne-zero (eqb-false _ _ e) in
-        let there = (counted n (levels - 1) pos).1 (omega (arith, halved_is n (levels - 1))) in
-        allowed n levels (omega arith) (omega arith)

@@ -1,6 +1,7 @@
--- What callers use of `halved`, `side_at` and `max_mip_levels` in place of their text.
-use Rattle.std.specs.Prelude.{◌≡◌, ◌↔◌, ℕ, ◌/◌, ◌^◌, ◌≤◌, ◌<◌}
+-- What callers use of `halved`, `side_at` and `max_mip_levels` in place of their text; and what the list in the code says.
+use Rattle.std.specs.Prelude.{◌≡◌, ◌↔◌, ℕ, ◌/◌, ◌^◌, ◌≤◌, ◌<◌, length, slice_index_or}
 use Rattle.mip_levels.specs.Level.{halved, side_at, max_mip_levels}
+use Rattle.mip_levels.specs.declared.TheConstants.{LEVEL_THRESHOLDS}
 
 pub record LevelLaws : Type 0 where
   -- halving as many times divides by that power of two
@@ -12,3 +13,7 @@ pub record LevelLaws : Type 0 where
   pub counted : (n level : ℕ) → 0 < n → (level < max_mip_levels n) ↔ (0 < halved n level)
   -- and so there are at most as many levels as the largest side has binary digits
   pub few : (n digits : ℕ) → n < 2 ^ digits → 0 < digits → max_mip_levels n ≤ digits
+
+-- each threshold of the list in the code is its power of two: 1, 2, 4 and so on
+abbrev pub ThresholdLaw : Type 0
+ThresholdLaw = (i : ℕ) → i < length LEVEL_THRESHOLDS → slice_index_or LEVEL_THRESHOLDS i 0 ≡ 2 ^ i

@@ -1,10 +1,17 @@
 #![tactic(auto)]
 // The extent of a level, and how many levels a texture may have.
-ghost use Rattle.std.specs.Prelude.{◌≡◌, ◌&&◌, leb};
+ghost use Rattle.std.specs.Prelude.{◌≡◌, ◌&&◌, ◌<◌, ◌^◌, leb, length};
 ghost use Rattle.mip_levels.specs.Level.{texture_dimension, side_at, texels_at, mip_level_size, max_mip_levels};
-ghost use Rattle.mip_levels.specs.Laws.{LevelLaws};
+ghost use Rattle.mip_levels.specs.Laws.{LevelLaws, ThresholdLaw};
+ghost use Rattle.mip_levels.specs.declared.TheConstants.{LEVEL_THRESHOLDS};
 
 use measures::{Extent3d, Texels};
+
+// From these largest sides on a texture may have 1, 2, 3 levels and so on. Kept as the plotter technicians have it in print, to be
+// compared by eye.
+const LEVEL_THRESHOLDS: [u32; 14] = [
+    1, 2, 4, 8, 16, 32, 64, 128, 256, 512, 1024, 2048, 4096, 8192,
+];
 
 #[derive(Clone, Copy)]
 pub enum TextureDimension {
@@ -70,21 +77,19 @@ pub fn mip_level_size(dimension: TextureDimension, size: Extent3d, level: u32) -
     }
 }
 
-// Whether a texture whose largest side is n may have this many levels.
+// Whether a texture whose largest side is n may have this many levels. For sides from 1 to below twice the last threshold: of any
+// other the list says less than the halvings.
 pub fn may_have_levels(n: u32, levels: u32) -> bool
+    requires some { 0 < n }
+    requires within { n < 2 ^ length LEVEL_THRESHOLDS }
     ensures { result ≡ (leb 1 levels && leb levels (max_mip_levels n)) }
 {
-    if levels < 2 {
-        return levels == 1;
-    }
-    if levels > 32 {
-        return false;
-    }
-    // the last level is there where the side is not halved away
-    n >> (levels - 1) != 0
+    (1..=LEVEL_THRESHOLDS.len() as u32).contains(&levels)
+        && LEVEL_THRESHOLDS[(levels - 1) as usize] <= n
 }
 
-// Asks the check for the laws of levels; nothing runs here.
+// Asks the check for the laws of levels and of the list; nothing runs here.
 pub fn level_laws()
-    ensures { LevelLaws }
+    ensures laws { LevelLaws }
+    ensures thresholds { ThresholdLaw }
 {}

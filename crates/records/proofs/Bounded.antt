@@ -63,12 +63,15 @@ sized D1 e b =
 sized D2 e b = spread max_side max_layers e (omega arith) (omega arith) b
 sized D3 e b = spread max_side3d max_side3d e (omega arith) (omega arith) b
 
--- the side that is halved is within the largest limit
-mip_side_lem : (d : TextureDimension) (e : Extent3d) → Sized e → mip_side d e < 2 ^ max_levels
+-- the side that is halved is not 0, and within the largest limit
+mip_side_lem : (d : TextureDimension) (e : Extent3d) → Sized e → (0 < mip_side d e) × (mip_side d e < 2 ^ max_levels)
 unfolding mip_side
-mip_side_lem D1 e s = omega arith
-mip_side_lem D2 e s = omega arith
-mip_side_lem D3 e s = omega arith
+mip_side_lem D1 e s = (omega arith, omega arith)
+mip_side_lem D2 e s = (omega arith, omega arith)
+mip_side_lem D3 e s = (omega arith, omega arith)
+
+pub mip_side_within : (d : TextureDimension) (e : Extent3d) → size_in_bounds d e ≡ true → (0 < mip_side d e) × (mip_side d e < 2 ^ max_levels)
+mip_side_within d e b = mip_side_lem d e (sized d e b)
 
 -- a level of it is no larger, and has texels
 level_sized : (d : TextureDimension) (e : Extent3d) (level : ℕ) → Sized e → Sized (mip_level_size d e level)
@@ -141,7 +144,7 @@ counted : (d : TextureDimension) (e : Extent3d) (levels : ℕ) → Sized e → l
 unfolding levels_in_bounds
 counted d e levels s b =
     let l = is_within _ _ _ b in
-    let few = level_laws.few (mip_side d e) max_levels (mip_side_lem d e s) (omega arith) in
+    let few = level_laws.few (mip_side d e) max_levels (mip_side_lem d e s).1 (omega arith) in
     (l.0, omega arith)
 
 pub texture_laws : (t : Texture) → texture_in_bounds t ≡ true → TextureLaws t

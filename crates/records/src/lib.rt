@@ -134,6 +134,7 @@ fn mip_side(dimension: TextureDimension, e: Extent3d) -> u32
 
 #[tactic(auto, unfolding(crate::specs::Bounds::levels_in_bounds, crate::specs::Bounds::within))]
 fn levels_in_bounds(dimension: TextureDimension, e: Extent3d, levels: u32) -> bool
+    requires { size_in_bounds dimension e ≡ true }
     ensures { result ≡ levels_in_bounds dimension e levels }
 {
     mip_levels::may_have_levels(mip_side(dimension, e), levels)
@@ -147,6 +148,7 @@ fn has_size_in_bounds(t: Texture) -> bool
 }
 
 fn has_levels_in_bounds(t: Texture) -> bool
+    requires { size_in_bounds (texture_dimension t.dimension) t.size ≡ true }
     ensures { result ≡ levels_in_bounds (texture_dimension t.dimension) t.size t.mip_level_count }
 {
     let size = t.size;
