@@ -116,6 +116,39 @@ fn texture_records() {
     }
 }
 
+/// The most levels of a texture: 1, and one more each time that the side can be halved.
+fn most_levels(dimension: TextureDimension, side: u32) -> u32 {
+    match (dimension, side) {
+        (D1, _) | (_, 1) => 1,
+        (_, side) => 1 + most_levels(dimension, side / 2),
+    }
+}
+
+#[test]
+fn levels_of_every_side() {
+    for (dimension, largest) in [(D1, 8_192), (D2, 8_192), (D3, 2_048)] {
+        for side in 1..=largest {
+            let most = most_levels(dimension, side);
+            for levels in 0..=most + 2 {
+                let texture = Texture {
+                    mip_level_count: levels,
+                    ..texture(0, R8Unorm, dimension, [side, 1, 1])
+                };
+                let written = write_texture(
+                    DEVICE,
+                    from_start(&texture),
+                    1,
+                    layout(0, None, None),
+                    extent([1, 1, 1]),
+                );
+                let ill = TransferError::InvalidTextureRecord { side: Destination };
+                let refused = (levels == 0 || most < levels).then_some(ill);
+                assert_eq!(written.err(), refused, "{texture:?}");
+            }
+        }
+    }
+}
+
 #[test]
 fn buffers_as_they_are() {
     let copy =
