@@ -1,5 +1,6 @@
-//! Times the planner and the Rust on the same copies, in turn, in one process; and
-//! its books and plain C on the same ranges.
+//! Times the planner and the Rust on the same copies, in turn, in one process; its
+//! books and plain C on the same ranges; and its refusals of texture records at two
+//! checks, one of which follows the other.
 
 mod books;
 mod inputs;
@@ -7,6 +8,7 @@ mod layers;
 mod listing;
 mod passes;
 mod race;
+mod records;
 
 use std::fs;
 
@@ -17,6 +19,7 @@ use copy_sheet::{CopyKind, Prepared, Recorder};
 use inputs::{Inputs, KINDS};
 use passes::Record;
 use race::{Race, Side};
+use records::IllRecords;
 
 const NAMES: [&str; KINDS] = [
     "buffer_to_buffer",
@@ -38,12 +41,14 @@ fn main() {
     let layers = LAYERS.map(layers::layers);
     let plans = layers.each_ref().map(layers::plan_of);
     let sheet = listing::large_sheet();
+    let (sizes, levels) = (IllRecords::of_size(), IllRecords::of_levels());
 
     let mut races = copy_races(&sets);
     let most = &layers[LAYERS.len() - 1];
     let name = format!("ask_{MOST_LAYERS}_layers");
     races.push(copy_race(name, "one copy, buffer to texture".into(), most));
     races.push(layers::write_race(&plans[LAYERS.len() - 1]));
+    races.push(records::race(&sizes, &levels));
     races.extend(books::races());
     races.push(listing::race(&sheet));
     let ratios = races.len();
@@ -73,6 +78,7 @@ fn print_setting() {
          are used again"
     );
     println!("a call of a copy is timed with the reading of all its ranges and regions");
+    println!("texture_record_levels: both sides are the planner's");
     println!(
         "book_*: the planner over plain C; {}, {}; both by a call that nothing is inlined into",
         env!("CC_VERSION"),
