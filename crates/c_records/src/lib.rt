@@ -64,7 +64,7 @@ pub fn texture_from(t: &[u32; 8]) -> Texture
 }
 
 // Level, x, y, z, aspect. A number past the aspects, which `side_from` refuses, counts as the last.
-#[tactic(auto, using(formats::proofs::AspectLaws::or_last), unfolding(crate::specs::CRecords::view_from))]
+#[tactic(auto, unfolding(crate::specs::CRecords::view_from))]
 pub fn view_from(v: &[u32; 5]) -> TexelCopyTextureInfo
     ensures { result ≡ view_from v.now }
 {
@@ -73,11 +73,10 @@ pub fn view_from(v: &[u32; 5]) -> TexelCopyTextureInfo
         y: Texels(v[2]),
         z: v[3],
     };
-    let aspect = TextureAspect::try_from(u64::from(v[4])).unwrap_or(TextureAspect::Plane2);
     TexelCopyTextureInfo {
         mip_level: v[0],
         origin,
-        aspect,
+        aspect: formats::aspect_of(u64::from(v[4])),
     }
 }
 

@@ -2,12 +2,15 @@
 -- Assumes nothing.
 use Prim.{Unit, tt}
 use mathlib.Core.Path.{◌≡◌, refl}
+use mathlib.Core.Bool.{Bool, true, false}
+use borrow.Author.Tests.{leb-true, leb-false}
+use Rattle.std.proofs.lemmas.List.{get_or_default}
 use mathlib.Core.List.{List, [], ◌∷◌, ◌++◌, append-nil}
 use Prim.Native.Nat.{ℕ, zero, suc, ◌+◌, ◌-◌, ◌^◌, ◌≤◌, ◌<◌, ◌%◌}
 use native.Mathlib.Omega.{arith}
 use native.Mathlib.Nat.{mod-lt}
-use lib.Dec.{eqb}
-use lib.ListN.{length, get_or}
+use lib.Dec.{eqb, leb}
+use lib.ListN.{length, get_or, get_or-eq_default}
 use Rattle.std.specs.Prelude.{option_map, Option, Some, None, unwrap_or, Result, Ok, Err}
 use Rattle.refusals.specs.Order.{Checks, first, decided}
 use Rattle.refusals.specs.declared.TransferError.{TransferError}
@@ -114,7 +117,7 @@ length_kind kind =
     (either_way LengthKind (eqb kind 4) _ _ (omega arith, omega arith, omega arith)
     (either_way (λ (k : FieldKind). LengthKind (buffer_texture_kinds k)) (eqb kind 5) Long Word (omega arith, omega arith, omega arith) (omega arith, omega arith, omega arith)))
 
-value_few : (r : Rule) (o : Option ℕ) → r.most < 2 ^ 64 → Allowed r o → unwrap_or o 0 < 2 ^ 64
+value_few : (r : Rule) (o : Option ℕ) → r.most < 2 ^ 64 → Allowed r o → unwrap_or o (2 ^ 64 - 1) < 2 ^ 64
 value_few r (Some v) h a = omega (arith, h, a.1)
 value_few r None h a = omega arith
 
@@ -122,8 +125,13 @@ length_few : (s : List ℕ) (at : ℕ) → value_of (section_line s copies at) 1
 unfolding value_of section_line row_of kinds_of no_line
 length_few s at = go (line_of s (copy_kinds (kind_at s at)) at) refl
   where
-    go : (o : Option Line) → line_of s (copy_kinds (kind_at s at)) at ≡ o → unwrap_or (get_or (unwrap_or o no_line).values 1 None) 0 < 2 ^ 64
-    go (Some l) e = let c = length_kind (kind_at s at) in value_few _ _ c.2 (field_laws.value s (copy_kinds (kind_at s at)) at 1 l c.1 e c.0)
+    -- where a line has no second value, 0 is read
+    here : (l : Line) (short : Bool) → leb (length l.values) 1 ≡ short → unwrap_or (get_or l.values 1 None) (2 ^ 64 - 1) < 2 ^ 64 → unwrap_or (get_or l.values 1 (Some 0)) (2 ^ 64 - 1) < 2 ^ 64
+    here l true e h = rw (get_or-eq_default l.values (Some 0) (leb-true _ _ e)) (omega arith)
+    here l false e h = rw (get_or_default l.values 1 (Some 0) None (leb-false _ _ e)) h
+
+    go : (o : Option Line) → line_of s (copy_kinds (kind_at s at)) at ≡ o → unwrap_or (get_or (unwrap_or o no_line).values 1 (Some 0)) (2 ^ 64 - 1) < 2 ^ 64
+    go (Some l) e = let c = length_kind (kind_at s at) in here l _ refl (value_few _ _ c.2 (field_laws.value s (copy_kinds (kind_at s at)) at 1 l c.1 e c.0))
     go None e = omega arith
 
 module _ (s ts bs : List ℕ) (device : Device) (l : Line) (few : value_of l 1 < 2 ^ 64) where

@@ -4,7 +4,7 @@ ghost use Rattle.std.specs.Prelude.{◌≡◌, true, ◌≤◌, ◌<◌};
 ghost use Rattle.flags.specs.FormatAspects.{COLOR};
 ghost use Rattle.measures.specs.Measure.{or_else};
 ghost use Rattle.formats.specs.Table.{color as color_row, depth_stencil, planar as planar_row, format_row, is_format, block_dimensions, aspects_of, is_depth_stencil, is_combined_depth_stencil, remove_srgb, is_multi_planar};
-ghost use Rattle.formats.specs.Aspects.{named_aspect, asked_of, chosen_aspects, bytes_of, block_copy_size, plane_format, aspect_specific_format, subsampling_factor};
+ghost use Rattle.formats.specs.Aspects.{aspect_of, named_aspect, asked_of, chosen_aspects, bytes_of, block_copy_size, plane_format, aspect_specific_format, subsampling_factor};
 ghost use Rattle.formats.specs.Laws.{EveryFormat, max_block_side};
 
 use flags::FormatAspects;
@@ -186,6 +186,14 @@ impl TryFrom<u64> for TextureAspect {
             _ => Err(UnknownAspect(n)),
         }
     }
+}
+
+// The aspect of a number, 0 to 5; a larger one, which callers refuse, counts as 5.
+#[tactic(auto, using(crate::proofs::AspectLaws::or_last))]
+pub fn aspect_of(n: u64) -> TextureAspect
+    ensures { result ≡ aspect_of n }
+{
+    TextureAspect::try_from(n).unwrap_or(TextureAspect::Plane2)
 }
 
 #[tactic(auto, unfolding(crate::specs::Aspects::asked_of))]

@@ -42,7 +42,7 @@ impl BlockSide {
     }
 
     // How many texels that is.
-    fn count(self) -> u32
+    pub fn count(self) -> u32
         ensures value { result ≡ self.0 }
         ensures some { 0 < result }
     {

@@ -15,25 +15,33 @@ use std::marker::Model;
 // What stands for an absent value.
 pub const ABSENT: u64 = u64::MAX;
 
-// At most fifteen numbers. Contracts see their list.
-#[derive(Drop)]
+// At most fifteen numbers, and zeros behind them. Contracts see their list.
+#[derive(Clone, Copy)]
 pub struct Row {
     count: usize,
     values: [u64; 15],
 }
 
 impl Model for Row {
-    ghost use Rattle.std.specs.Prelude.{ℕ, ◌≤◌, List, take};
+    ghost use Rattle.std.specs.Prelude.{ℕ, ◌≡◌, ◌≤◌, ◌-◌, ◌++◌, List, take, drop, length, replicate};
+    ghost use Rattle.std.proofs.Common.{arith, ap, sym, ◌∙◌, length-take-le, take-append-drop};
 
     ghost Value = { List ℕ };
 
     ghost view = { λ r. take r.count r.values };
 
-    ghost invariant = { λ r. r.count ≤ 15 };
+    ghost invariant = { λ r. (r.count ≤ 15) × (length r.values ≡ 15) × (drop r.count r.values ≡ replicate (15 - r.count) 0) };
+
+    ghost inverse = { λ ns. record { count = length ns; values = ns ++ replicate (15 - length ns) 0 } };
+
+    ghost inverse_ok = { λ r h i. record {
+      count = length-take-le r.count r.values (omega (arith, h.0, h.1)) i;
+      values = (ap (λ n. take r.count r.values ++ replicate (15 - n) 0) (length-take-le r.count r.values (omega (arith, h.0, h.1))) ∙ (ap (λ l. take r.count r.values ++ l) (sym h.2) ∙ take-append-drop r.count r.values)) i;
+    } };
 }
 
 impl Row {
-    fn of<const N: usize>(numbers: [u64; N]) -> Row
+    pub fn of<const N: usize>(numbers: [u64; N]) -> Row
         requires { N ≤ 15 }
         ensures { result ≡ numbers.entry }
     {

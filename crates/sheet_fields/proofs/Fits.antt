@@ -109,15 +109,15 @@ fields_fit s (k ∷ ks) at r e = of_field s k at (separator_of (length (k ∷ ks
 
 of_line :
     (kinds : List FieldKind) (i : ℕ) (o : Option Fields) (l : Line) → ((f : Fields) → o ≡ Some f → AllFit kinds f.found) → length kinds ≤ line_values
-    → line_with (replicate line_values None) 0 o ≡ Some l → i < length kinds
+    → line_with (replicate line_values (Some 0)) 0 o ≡ Some l → i < length kinds
     → Allowed (rule_of (get_or kinds i Word)) (get_or l.values i None)
 unfolding line_with
 of_line kinds i None l fit few e h = absurd (none-some l e)
 of_line kinds i (Some f) l fit few e h =
     let a = fit f refl in
     let k = a.same in
-    let q : record { next = f.after; values = sets (replicate line_values None) 0 f.found } ≡ l = same_Some _ _ e in
-    rw (← q, stored f.found (replicate line_values None) i (omega arith) (omega arith)) (a.each i h)
+    let q : record { next = f.after; values = sets (replicate line_values (Some 0)) 0 f.found } ≡ l = same_Some _ _ e in
+    rw (← q, stored f.found (replicate line_values (Some 0)) i (omega arith) (omega arith)) (a.each i h)
 
 line_value :
     (s : List ℕ) (kinds : List FieldKind) (at i : ℕ) (l : Line) → length kinds ≤ line_values → line_of s kinds at ≡ Some l → i < length kinds

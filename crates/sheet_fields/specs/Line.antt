@@ -42,8 +42,8 @@ line_with vs i (Some f) = Some (record { next = f.after; values = sets vs i f.fo
 
 -- what is read where no line is
 unfoldable pub no_line : Line
-no_line = record { next = 0; values = replicate line_values None }
+no_line = record { next = 0; values = replicate line_values (Some 0) }
 
--- after a line's own values there are none
+-- after a line's own values are zeros
 unfoldable pub line_of : List ℕ → List FieldKind → ℕ → Option Line
-line_of s kinds at = line_with (replicate line_values None) 0 (fields_in s kinds at)
+line_of s kinds at = line_with (replicate line_values (Some 0)) 0 (fields_in s kinds at)

@@ -37,7 +37,7 @@ pub struct Field {
     pub next: usize,
 }
 
-// A line's values, and the place after the line. A value is none where `-` stands, and after the line's last field.
+// A line's values, and the place after the line. A value is none where `-` stands; after the line's last field they are 0.
 #[derive(Clone, Copy)]
 pub struct Line {
     pub next: usize,
@@ -45,7 +45,7 @@ pub struct Line {
 }
 
 impl Line {
-    // What stands in a field, if anything does; past the last field nothing.
+    // What stands in a field, none for `-`; 0 past the line's last field, and none where a line has no room for more.
     pub fn value(self, i: usize) -> Option<u64>
         ensures { result ≡ get_or self.values i None }
     {
@@ -60,7 +60,7 @@ pub fn no_line() -> Line
 {
     Line {
         next: 0,
-        values: [None; LINE_VALUES],
+        values: [Some(0); LINE_VALUES],
     }
 }
 
@@ -190,7 +190,7 @@ pub fn read_line(s: &[u8], at: usize, kinds: &[FieldKind]) -> Option<Line>
     requires { length kinds.now ≤ line_values }
     ensures { result ≡ line_of s.now kinds.now at }
 {
-    let mut values = [None; LINE_VALUES];
+    let mut values = [Some(0); LINE_VALUES];
     let mut next = at;
     for (i, kind) in kinds.iter().enumerate() {
         let f = read_field(s, next, *kind, separator(kinds.len() - i))?;

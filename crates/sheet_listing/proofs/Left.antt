@@ -8,7 +8,7 @@ use Prim.Native.Nat.{ℕ, zero, suc, ◌+◌, ◌-◌, ◌≤◌, ◌<◌}
 use native.Mathlib.Omega.{arith}
 use borrow.Author.Tests.{ltb-true, ltb-false}
 use lib.Dec.{ltb}
-use lib.ListN.{length}
+use lib.ListN.{length, length-append}
 use borrow.Rule.Slice.PartMut.{mid_of, put_mid, mid_len, put_same}
 use Rattle.records.specs.declared.Device.{Device}
 use Rattle.sheet_fields.specs.declared.Line.{Line}
@@ -183,3 +183,7 @@ module _ {s ts bs : List ℕ} {device : Device} {first c : CopiesLeft} {l₀ l :
   filling_stops stops =
       rw (stops.1, put_same at left l)
       (f.fills, (f.inside, λ r z. ap (λ (q : CopiesLeft). text_left s ts bs device q) (sym (f.begun z)) ∙ stops.0 (omega (arith, part_long, f.same))))
+
+-- so many bytes were put as are no longer left
+pub fills_count : {l m : List ℕ} {n : ℕ} {a b : List ℕ} → Fills l m n a b → length a ≡ n + length b
+fills_count {b = b} f = omega (arith, ap length f.left, length-append f.text b, f.put.next)

@@ -6,7 +6,7 @@
 // DESCRIPTOR is a digit from 3 on: the status is written there in the end, and the program itself ends with 0. LABEL comes
 // before the error of a read, HEADING before the listing. Where REPORT is `written`, the listing is of what has to be cleared before each copy
 // and what no copy's range holds; by any other word, or none, it is of plans.
-ghost use Rattle.std.specs.Prelude.{◌≡◌, true, false, is_ok, IfOk, OnErr};
+ghost use Rattle.std.specs.Prelude.{◌≡◌, ◌≤◌, true, false, length, is_ok, IfOk, OnErr};
 ghost use Rattle.sheet_calls.specs.Calls.{Sends};
 ghost use Rattle.sheet_calls.specs.Delivery.{Delivered};
 ghost use Rattle.sheet_listing.specs.Listing.{listing_of};
@@ -136,7 +136,9 @@ fn say_unread<P: Print>(to: &P, error: &Error, label: &[u8]) {
 }
 
 // Argument i, which is put into the room; empty for one that is not there, or longer.
-fn argument<'a, E: Env>(env: &E, i: usize, room: &'a mut [u8]) -> &'a [u8] {
+fn argument<'a, E: Env>(env: &E, i: usize, room: &'a mut [u8]) -> &'a [u8]
+    ensures { length result.now ≤ length room.old }
+{
     let n = env.arg(i, room).unwrap_or(0);
     &room[..n]
 }

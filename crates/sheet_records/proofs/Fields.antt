@@ -8,14 +8,14 @@ use native.Mathlib.Nat.{min-eq_left, min-eq_right}
 use borrow.Author.Tests.{leb-true, leb-false}
 use lib.Dec.{leb}
 use lib.ListN.{length, get_or-eq_default}
-use Rattle.std.specs.Prelude.{Option, None, unwrap_or}
+use Rattle.std.specs.Prelude.{Option, Some, unwrap_or}
 use Rattle.sheet_fields.specs.declared.Line.{Line}
 use Rattle.sheet_records.specs.Records.{value_of}
 
--- past the last field nothing stands
+-- past a line's room 0 is read
 past : (l : Line) (i : ℕ) → length l.values ≤ i → value_of l i ≡ 0
 unfolding value_of
-past l i h = ap (λ (o : Option ℕ). unwrap_or o 0) (get_or-eq_default l.values None h)
+past l i h = ap (λ (o : Option ℕ). unwrap_or o (2 ^ 64 - 1)) (get_or-eq_default l.values (Some 0) h)
 
 -- a sum that 64 bits do not hold is past it, and so is their largest number
 pub saturated : (l : Line) (i k at : ℕ) → length l.values ≡ 16 → at ≡ min (i + k) (2 ^ 64 - 1) → value_of l at ≡ value_of l (i + k)

@@ -1,6 +1,6 @@
 -- Records and figures from a line's values. A value is a number below 2 ^ 64; one that a field of 32 bits holds is below 2 ^ 32.
--- One that is absent is no number, and is read as 0 where a number is asked for.
-use Rattle.std.specs.Prelude.{option_map, ℕ, ◌+◌, ◌%◌, ◌^◌, None, unwrap_or, eqb, get_or, Option}
+-- One that is absent is no number, and is read as the last number of 64 bits where a number is asked for; past the last field 0 is read.
+use Rattle.std.specs.Prelude.{option_map, ℕ, ◌+◌, ◌-◌, ◌%◌, ◌^◌, Some, None, unwrap_or, eqb, get_or, Option}
 use Rattle.measures.specs.declared.Extent3d.{Extent3d}
 use Rattle.measures.specs.declared.Origin3d.{Origin3d}
 use Rattle.measures.specs.Measure.{texels}
@@ -13,7 +13,7 @@ use Rattle.records.specs.declared.TexelCopyBufferLayout.{TexelCopyBufferLayout}
 use Rattle.sheet_fields.specs.declared.Line.{Line}
 
 unfoldable pub value_of : Line → ℕ → ℕ
-value_of l i = unwrap_or (get_or l.values i None) 0
+value_of l i = unwrap_or (get_or l.values i (Some 0)) (2 ^ 64 - 1)
 
 unfoldable pub word_of : Line → ℕ → ℕ
 word_of l i = value_of l i % 2 ^ 32

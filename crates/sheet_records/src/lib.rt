@@ -4,17 +4,17 @@ ghost use Rattle.std.specs.Prelude.{◌≡◌, ◌+◌, ◌%◌, ◌^◌};
 ghost use Rattle.sheet_records.specs.Records.{value_of, word_of, word_or_absent, size_of, extent_of, device_of, texture_of, buffer_of, view_of, layout_of};
 
 use flags::{BufferUsages, TextureUsages};
-use formats::TextureAspect;
 use measures::{Extent3d, Origin3d, Texels};
 use records::{Buffer, Device, TexelCopyBufferLayout, TexelCopyTextureInfo, Texture};
 use sheet_fields::Line;
 
-// A field that is absent is no number: it is read as 0.
+// `-` is read as the last number of 64 bits, and what is past the last field as 0.
 #[tactic(auto, unfolding(crate::specs::Records::value_of))]
 pub fn value_of(l: Line, i: usize) -> u64
     ensures { result ≡ value_of l i }
 {
-    l.value(i).unwrap_or(0)
+    let value = l.values.get(i).copied().unwrap_or(Some(0));
+    value.unwrap_or(u64::MAX)
 }
 
 // The low 32 bits. The fields that are read as words hold no more, so nothing is cut off.
@@ -109,11 +109,11 @@ pub fn buffer_of(l: Line) -> Buffer
     }
 }
 
-#[tactic(auto, using(formats::proofs::AspectLaws::or_last), unfolding(crate::specs::Records::view_of, crate::specs::Records::origin_of))]
+#[tactic(auto, unfolding(crate::specs::Records::view_of, crate::specs::Records::origin_of))]
 pub fn view_of(l: Line, i: usize) -> TexelCopyTextureInfo
     ensures { result ≡ view_of l i }
 {
-    let aspect = TextureAspect::try_from(value_on(l, i, 4)).unwrap_or(TextureAspect::Plane2);
+    let aspect = formats::aspect_of(value_on(l, i, 4));
     TexelCopyTextureInfo {
         mip_level: word_of(l, i),
         origin: Origin3d {

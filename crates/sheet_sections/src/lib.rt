@@ -5,7 +5,7 @@ ghost use Rattle.std.specs.Prelude.{◌≡◌, ◌≤◌, length};
 ghost use Rattle.std.specs.Result.{result_ok};
 ghost use Rattle.std.proofs.lemmas.List.Edits.{sets};
 ghost use Rattle.sheet_fields.specs.Line.{line_of};
-ghost use Rattle.sheet_sections.specs.Kinds.{kind_number, kind_of};
+ghost use Rattle.sheet_sections.specs.Kinds.{section_numbered, kind_number, kind_of};
 ghost use Rattle.sheet_sections.specs.Rows.{kind_at, linear_kind, copy_kinds, row_of, section_line, places_of, rows_of};
 ghost use Rattle.sheet_sections.specs.Sheet.{least_of, most_of, section_of_count, section_of, found_of, newlines, sheet_of, line_number};
 ghost use Rattle.sheet_sections.specs.Laws.{SheetLaws};
@@ -19,6 +19,21 @@ pub enum Section {
     Textures,
     Buffers,
     Copies,
+}
+
+// By its number, which is 0 for the first; a number past the last is that of the copies.
+impl From<usize> for Section {
+    ghost from_gives = { λ n section. section ≡ section_numbered n };
+
+    #[tactic(auto, unfolding(crate::specs::Kinds::section_numbered))]
+    fn from(n: usize) -> Section {
+        match n {
+            0 => Section::Devices,
+            1 => Section::Textures,
+            2 => Section::Buffers,
+            _ => Section::Copies,
+        }
+    }
 }
 
 // The most bytes of a sheet.
@@ -149,7 +164,7 @@ fn read_copy(s: &[u8], at: usize, kind: CopyKind) -> Option<Line>
 
 // The line of a section at a place, if one is there.
 #[tactic(auto, using(crate::proofs::KindLaws::kind_ill, crate::proofs::KindLaws::kind_well), unfolding(crate::specs::Rows::row_of, crate::specs::Rows::kinds_of, crate::specs::Rows::device_kinds, crate::specs::Rows::texture_kinds, crate::specs::Rows::buffer_kinds))]
-fn find_row(s: &[u8], section: Section, at: usize) -> Option<Line>
+pub fn find_row(s: &[u8], section: Section, at: usize) -> Option<Line>
     ensures { result ≡ row_of s.now section at }
 {
     let w = FieldKind::Word;
@@ -161,7 +176,7 @@ fn find_row(s: &[u8], section: Section, at: usize) -> Option<Line>
     }
 }
 
-// The same where a line is known to be there, as in a good sheet; else a line without values.
+// The same where a line is known to be there, as in a good sheet; else a line of zeros.
 #[tactic(auto, unfolding(crate::specs::Rows::section_line))]
 pub fn read_row(s: &[u8], section: Section, at: usize) -> Line
     ensures { result ≡ section_line s.now section at }
