@@ -184,7 +184,8 @@ fn separator(left: usize) -> u8
     if left == 1 { b'\n' } else { b' ' }
 }
 
-// The line at a place, its fields by their kinds.
+// The line at a place, its fields by their kinds. Inlined: a call would copy the line, which is long.
+#[inline(always)]
 #[tactic(auto, using(crate::proofs::LineLaws::line_off, crate::proofs::LineLaws::line_all), unfolding(crate::specs::Line::line_of))]
 pub fn read_line(s: &[u8], at: usize, kinds: &[FieldKind]) -> Option<Line>
     requires { length kinds.now ≤ line_values }
